@@ -26,15 +26,15 @@ use Rattle.iw_stream.specs.Frames.{Frame}
 use Rattle.iw_stream.specs.Judging.{verdict, early_verdict, table_tried, turn_of, fault_or}
 use Rattle.iw_startup.specs.declared.enhanced.Mismatch.{Mismatch}
 use Rattle.iw_stream.specs.Starting.{StartState, first_place_in, progress_in, heard, mismatch_in}
-use Rattle.iw_stream.specs.Stream.{StreamState, sees, Due, StartUp, LastWord, NextPart, NoneDue, Response as ResponseDue, due, frame_of, frame_fetched, emission_of, emitted, emission_due, octets_due, emission_fetched, octets_fetched}
+use Rattle.iw_stream.specs.Stream.{StreamState, sees, Due, StartUp, LastWord, NextPart, NoneDue, Response as ResponseDue, due, frame_of, frame_fetched, emission_of, emitted, emission_due, octets_due, emission_fetched, octets_fetched, Ready}
 use Rattle.iw_stream.specs.Work.{Task, HandOut, GiveUp, GiveBack, Hear, Turn, Clash, Judge, Try, Rest, task, inbox, standing, step_of, table_left, table_judged, table_passed, judged_step, tried_step, turned_step, heard_step, opened_step, work_step, worked, table_worked}
 use Rattle.iw_startup.specs.declared.config.Config.{Config}
 use Rattle.iw_stream.specs.declared.answer.Role.TheVariants.{Preset}
 use Rattle.iw_laws.proofs.Rooms.{or_none}
 use Rattle.iw_endpoint.specs.Endpoint.{EndpointState, Pool as PoolOf, number_refusal, request_refusal, pool_of, lent_to, share_fault, pool_fault, take_fault, taken, open_shared_refusal_of, unshared, fresh, stream_of, unopened}
-use Rattle.iw_endpoint.specs.Isolation.{HasDomains, IsOwn, Concerns, OwnStep, OpensOwn, part_of, alone, answer_or, after, concerned}
+use Rattle.iw_endpoint.specs.Isolation.{HasDomains, IsOwn, IsOwnNumber, Concerns, OwnStep, OpensOwn, part_of, alone, answer_or, after, concerned}
 use Rattle.iw_endpoint.proofs.Tables.{AreAlike, worked-alike, verdict-alike, early-alike, turn-alike, judged-alike, fetched-alike, octets-alike, region-alike, none_taken, undenied}
-use Rattle.iw_endpoint.proofs.Parts.{AreSeenAlike, fresh_domains, seen_alone, stream_alike, alone_own}
+use Rattle.iw_endpoint.proofs.Parts.{AreSeenAlike, fresh_domains, seen_alone, stream_alike, closed_alike, alone_own, alone_number}
 use Rattle.iw_endpoint.proofs.Steps.{open_alike, concerns_one}
 use Rattle.iw_endpoint.proofs.Alone.{AreOwned, concerns, stay_owned, nothing_owned}
 use Rattle.iw_events.specs.declared.call.End.{End}
@@ -86,6 +86,7 @@ module _ (s : StreamState) (t u : Table) (h : AreAlike s.domain t u) where
       go : (k : Due) → shown_of t (emission_due t s k) (octets_due t s k) ≡ shown_of u (emission_due u s k) (octets_due u s k)
       go StartUp = refl
       go (LastWord payload) = refl
+      go (Ready rtr) = refl
       go (ResponseDue part) = fetched_shown part
       go (NextPart part) = refl
       go NoneDue = refl
@@ -207,11 +208,11 @@ own_rule d e (Store stag to octets refused) all here rule =
     subst (λ x. EndRule (alone x (part_of x e)) (Store stag to octets refused)) here
     (rule ∙ ap (λ part. own_store_refusal part stag to (length octets)) (seen_alone stag.domain e all).table.part)
 own_rule d e (Open n pd role options private refused) all here rule =
-    subst (λ x. IsOwn x (stream_of e n) → EndRule (alone x (part_of x e)) (Open n pd role options private refused)) here.0
+    subst (λ x. IsOwnNumber x e n → EndRule (alone x (part_of x e)) (Open n pd role options private refused)) here.0
     (λ own.
     let h = seen_alone pd e all in
     let f = alone pd (part_of pd e) in
-    rule ∙ open_alike pd e f n role (config_for options private) (stream_alike pd e f n own (alone_own pd e n) h) h) here.1
+    rule ∙ open_alike pd e f n role (config_for options private) (stream_alike pd e f n own.0 (alone_number pd e n).0 h) (closed_alike pd e f n own.1 (alone_number pd e n).1 h) h) here.1
 own_rule d e (Share pd refused) all here rule =
     let h = seen_alone pd e all in
     subst (λ x. EndRule (alone x (part_of x e)) (Share pd refused)) here (rule ∙ (λ i. share_fault (is_some (h.table.part i)) (h.pool i)))
@@ -222,19 +223,19 @@ own_rule d e (Unpool pd answer) all here rule =
     let h = seen_alone pd e all in
     subst (λ x. EndRule (alone x (part_of x e)) (Unpool pd answer)) here (rule ∙ (λ i. answer_or (take_fault (is_some (h.table.part i)) (h.pool i)) (taken (h.pool i))))
 own_rule d e (OpenShared n pd role options private refused) all here rule =
-    subst (λ x. IsOwn x (stream_of e n) → EndRule (alone x (part_of x e)) (OpenShared n pd role options private refused)) here.0
+    subst (λ x. IsOwnNumber x e n → EndRule (alone x (part_of x e)) (OpenShared n pd role options private refused)) here.0
     (λ own.
     let h = seen_alone pd e all in
     let f = alone pd (part_of pd e) in
     let config : Config = config_for options private in
     -- by its number, and by its domain
-    let numbers : number_refusal e n pd ≡ number_refusal f n pd = sym (or_none (number_refusal e n pd)) ∙ open_alike pd e f n Preset config (stream_alike pd e f n own (alone_own pd e n) h) h ∙ or_none (number_refusal f n pd) in
+    let numbers : number_refusal e n pd ≡ number_refusal f n pd = sym (or_none (number_refusal e n pd)) ∙ open_alike pd e f n Preset config (stream_alike pd e f n own.0 (alone_number pd e n).0 h) (closed_alike pd e f n own.1 (alone_number pd e n).1 h) h ∙ or_none (number_refusal f n pd) in
     rule ∙ (λ i. option_or (option_map open_shared_refusal_of (numbers i)) (option_or (unshared (h.pool i)) (option_map open_shared_refusal_of (request_refusal role config))))) here.1
 own_rule d e (Stream n act) all own rule =
     let h = seen_alone d e all in
     let f = alone d (part_of d e) in
-    let same = stream_alike d e f n own (alone_own d e n) h in
-    (ap is_some (sym same) ∙ rule.0, subst (λ o. RuleAt f o act) same (go (stream_of e n) own rule.0 rule.1))
+    let same = stream_alike d e f n own.0 (alone_own d e n) h in
+    (ap is_some (sym same) ∙ rule.0, subst (λ o. RuleAt f o act) same (go (stream_of e n) own.0 rule.0 rule.1))
   where
     go : (o : Option StreamState) → IsOwn d o → is_some o ≡ true → RuleAt e o act → RuleAt (alone d (part_of d e)) o act
     go None own there rule = absurd (false≢true there)

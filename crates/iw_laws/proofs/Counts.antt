@@ -46,6 +46,9 @@ use Rattle.iw_laws.specs.Faithful.{count_done}
 use Rattle.iw_laws.specs.Merged.{Item, Post, Response, posts_in, response_segment, ItemSegments, numbers_past, AreMerged}
 use Rattle.iw_reads.specs.declared.reads.Outstanding.{Outstanding}
 use Rattle.iw_reads.specs.Response.{response_head}
+use Rattle.iw_startup.specs.declared.enhanced.Rtr.{Rtr}
+use Rattle.iw_startup.specs.declared.enhanced.Rtr.TheVariants as rtrs
+use Rattle.iw_stream.specs.Rtr.{rtr_segment}
 use Rattle.iw_stream.specs.Stream.{reads_with}
 use Rattle.iw_octets.proofs.Spelled.{is_tagged-first_octet}
 use Rattle.iw_laws.proofs.Lists.{Each}
@@ -275,29 +278,33 @@ drop-push (suc n) (y ∷ ys) x h = drop-push n ys x (omega (arith, h))
 abbrev pub ticket_for : ℕ → ℕ
 ticket_for n = n % 2 ^ 64
 
-pub record Counts (q : Queue) (segments : List (Segment Octets)) (posted : List (Request Octets)) (handed : List Kind) (answered : ℕ) (reads : List Outstanding) : Type 0 where
+-- of a Read that was posted
+abbrev pub posted_ticket : ℕ → Option ℕ
+posted_ticket n = Some (ticket_for n)
+
+pub record Counts (q : Queue) (whole : ℕ) (posted : List (Request Octets)) (handed : List Kind) (answered : ℕ) (reads : List Outstanding) : Type 0 where
   pub order : map kind_of posted ≡ handed ++ kinds_in q
   pub first : List (Request Octets)  -- those that were sent to their end
   pub split : posted ≡ first ++ q.unsent
-  pub lasts : count_last segments ≡ length first
+  pub lasts : whole ≡ length first
   pub counted : length first ≡ length handed + length q.sent.messages
   pub oldest : q.sent.first ≡ ticket_for (length handed)
   pub marked : q.sent.messages ≡ drop (length handed) (marks answered first)
   pub some : answered ≤ count_reads first
   pub done : count_reads (take (length handed) first) ≤ answered
-  pub tickets : map (λ (r : Outstanding). r.ticket) reads ≡ map ticket_for (drop answered (places 0 first))
+  pub tickets : map (λ (r : Outstanding). r.ticket) reads ≡ map posted_ticket (drop answered (places 0 first))
 
--- where no segment was sent, no Read is outstanding
-pub none_outstanding : {q : Queue} {us : List (Segment Octets)} {ms : List (Request Octets)} {ks : List Kind} {a : ℕ} {rs : List Outstanding} → us ≡ [] → Counts q us ms ks a rs → length rs ≡ 0
+-- where no message was sent to its end, no Read is outstanding
+pub none_outstanding : {q : Queue} {us : ℕ} {ms : List (Request Octets)} {ks : List Kind} {a : ℕ} {rs : List Outstanding} → us ≡ 0 → Counts q us ms ks a rs → length rs ≡ 0
 none_outstanding {us} {a} {rs} none n =
-    let empty : length n.first ≡ 0 = sym n.lasts ∙ ap count_last none in
-    sym (length-map rs (λ (r : Outstanding). r.ticket)) ∙ ap length n.tickets ∙ length-map (drop a (places 0 n.first)) ticket_for ∙ ap (λ (z : List (Request Octets)). length (drop a (places 0 z))) (no_messages n.first empty) ∙ omega (arith, length-drop a (places 0 []))
+    let empty : length n.first ≡ 0 = sym n.lasts ∙ none in
+    sym (length-map rs (λ (r : Outstanding). r.ticket)) ∙ ap length n.tickets ∙ length-map (drop a (places 0 n.first)) posted_ticket ∙ ap (λ (z : List (Request Octets)). length (drop a (places 0 z))) (no_messages n.first empty) ∙ omega (arith, length-drop a (places 0 []))
   where
     no_messages : (xs : List (Request Octets)) → length xs ≡ 0 → xs ≡ []
     no_messages [] h = refl
     no_messages (x ∷ xs) h = absurd (omega (arith, h))
 
-abbrev pub same_counts : {q q' : Queue} {us : List (Segment Octets)} {ms ms' : List (Request Octets)} {ks ks' : List Kind} {a a' : ℕ} {rs rs' : List Outstanding} → q' ≡ q → ms' ≡ ms → ks' ≡ ks → a' ≡ a → rs' ≡ rs → Counts q us ms ks a rs → Counts q' us ms' ks' a' rs'
+abbrev pub same_counts : {q q' : Queue} {us : ℕ} {ms ms' : List (Request Octets)} {ks ks' : List Kind} {a a' : ℕ} {rs rs' : List Outstanding} → q' ≡ q → ms' ≡ ms → ks' ≡ ks → a' ≡ a → rs' ≡ rs → Counts q us ms ks a rs → Counts q' us ms' ks' a' rs'
 same_counts {q} {q'} {us} {ms} {ms'} {ks} {ks'} {a} {a'} {rs} {rs'} e f g h i n = record {
   order = ap (map kind_of) f ∙ n.order ∙ (λ j. sym g j ++ kinds_in (sym e j));
   first = n.first;
@@ -308,10 +315,10 @@ same_counts {q} {q'} {us} {ms} {ms'} {ks} {ks'} {a} {a'} {rs} {rs'} e f g h i n 
   marked = ap (λ (z : Queue). z.sent.messages) e ∙ n.marked ∙ (λ j. drop (length (sym g j)) (marks (sym h j) n.first));
   some = subst (λ z. z ≤ count_reads n.first) (sym h) n.some;
   done = subst (λ z. count_reads (take (length ks') n.first) ≤ z) (sym h) (subst (λ (z : List Kind). count_reads (take (length z) n.first) ≤ a) (sym g) n.done);
-  tickets = ap (map (λ (r : Outstanding). r.ticket)) i ∙ n.tickets ∙ (λ j. map ticket_for (drop (sym h j) (places 0 n.first)));
+  tickets = ap (map (λ (r : Outstanding). r.ticket)) i ∙ n.tickets ∙ (λ j. map posted_ticket (drop (sym h j) (places 0 n.first)));
 }
 
-pub posted_counts : (q : Queue) (us : List (Segment Octets)) (ms : List (Request Octets)) (ks : List Kind) (a : ℕ) (rs : List Outstanding) (m : Request Octets) → Counts q us ms ks a rs → Counts (posted q m) us (ms ++ m ∷ []) (ks ++ []) a rs
+pub posted_counts : (q : Queue) (us : ℕ) (ms : List (Request Octets)) (ks : List Kind) (a : ℕ) (rs : List Outstanding) (m : Request Octets) → Counts q us ms ks a rs → Counts (posted q m) us (ms ++ m ∷ []) (ks ++ []) a rs
 posted_counts q us ms ks a rs m n = same_counts refl refl (append-nil ks) refl refl (record {
   order = map-append kind_of ms (m ∷ []) ∙ ap (λ z. z ++ kind_of m ∷ []) n.order ∙ append_assoc ks (kinds_in q) (kind_of m ∷ []) ∙ ap (λ z. ks ++ z) (sym (keeps_order.posted q m));
   first = n.first;
@@ -371,10 +378,14 @@ whole_of numbers q max part e =
     and_true true = refl
     and_true false = refl
 
+pub rtr_whole : (numbers : Numbers) (rtr : Rtr) → is_whole (rtr_segment numbers rtr) ≡ true
+rtr_whole numbers rtrs.Write = refl
+rtr_whole numbers rtrs.Read = refl
+
 -- a part of a message is sent
-pub part_counts : (q : Queue) (us : List (Segment Octets)) (ms : List (Request Octets)) (ks : List Kind) (a : ℕ) (rs : List Outstanding) (numbers : Numbers) (max : ℕ) (part : Part (Request Octets)) → next_part q max ≡ Some part → Counts q us ms ks a rs
-    → Counts (part_sent q (Some part)) (us ++ segment_of numbers part ∷ []) (ms ++ []) (ks ++ []) a (reads_with rs part.ticket part.message)
-part_counts q us ms ks a rs numbers max part e n =
+pub part_counts : (q : Queue) (us : ℕ) (ms : List (Request Octets)) (ks : List Kind) (a : ℕ) (rs : List Outstanding) (max : ℕ) (part : Part (Request Octets)) → next_part q max ≡ Some part → Counts q us ms ks a rs
+    → Counts (part_sent q (Some part)) (us + one_for part.last) (ms ++ []) (ks ++ []) a (reads_with rs (Some part.ticket) part.message)
+part_counts q us ms ks a rs max part e n =
     same_counts refl (append-nil ms) (append-nil ks) refl refl
     (by part.last refl)
   where
@@ -394,28 +405,25 @@ part_counts q us ms ks a rs numbers max part e n =
     kinds_stay last is =
         ap kinds_in (sym (ap (part_sent q) e ∙ ap (λ b. cond b (record { sent = added q.sent (kind_of part.message); unsent = drop 1 q.unsent; offset = 0 }) (record q { offset = q.offset + part.n })) is)) ∙ keeps_order.sent q max
 
-    one_more : (last : Bool) → part.last ≡ last → count_last (us ++ segment_of numbers part ∷ []) ≡ count_last us + one_for last
-    one_more last is = count_last-append us (segment_of numbers part ∷ []) ∙ omega (arith, ap one_for (whole_of numbers q max part e ∙ is))
-
-    tickets_with : (m : Request Octets) → map (λ (r : Outstanding). r.ticket) (reads_with rs part.ticket m) ≡ map ticket_for (drop a (places 0 (n.first ++ m ∷ [])))
-    tickets_with (Posted m) = n.tickets ∙ ap (λ z. map ticket_for (drop a z)) (sym (places-posted 0 n.first m))
+    tickets_with : (m : Request Octets) → map (λ (r : Outstanding). r.ticket) (reads_with rs (Some part.ticket) m) ≡ map posted_ticket (drop a (places 0 (n.first ++ m ∷ [])))
+    tickets_with (Posted m) = n.tickets ∙ ap (λ z. map posted_ticket (drop a z)) (sym (places-posted 0 n.first m))
     tickets_with (Read r) =
-        map-append (λ (x : Outstanding). x.ticket) rs (record { ticket = part.ticket; request = r; turned = 0 } ∷ [])
-        ∙ (λ i. n.tickets i ++ ticket_is i ∷ [])
-        ∙ sym (map-append ticket_for (drop a (places 0 n.first)) ((0 + length n.first) ∷ []))
-        ∙ ap (map ticket_for) (sym (ap (drop a) (places-read 0 n.first r) ∙ drop-push a (places 0 n.first) (0 + length n.first) (omega (arith, n.some, length-places 0 n.first))))
+        map-append (λ (x : Outstanding). x.ticket) rs (record { ticket = Some part.ticket; request = r; turned = 0 } ∷ [])
+        ∙ (λ i. n.tickets i ++ Some (ticket_is i) ∷ [])
+        ∙ sym (map-append posted_ticket (drop a (places 0 n.first)) ((0 + length n.first) ∷ []))
+        ∙ ap (map posted_ticket) (sym (ap (drop a) (places-read 0 n.first r) ∙ drop-push a (places 0 n.first) (0 + length n.first) (omega (arith, n.some, length-places 0 n.first))))
 
-    same_reads : (m : Request Octets) → part.message ≡ m → part.last ≡ false → reads_with rs part.ticket m ≡ rs
+    same_reads : (m : Request Octets) → part.message ≡ m → part.last ≡ false → reads_with rs (Some part.ticket) m ≡ rs
     same_reads (Posted m) is last = refl
     same_reads (Read r) is last = absurd (true≢false (sym (one_part q max part e (ap kind_of is)) ∙ last))
 
     by : (last : Bool) → part.last ≡ last
-        → Counts (cond last (record { sent = added q.sent (kind_of part.message); unsent = drop 1 q.unsent; offset = 0 }) (record q { offset = q.offset + part.n })) (us ++ segment_of numbers part ∷ []) ms ks a (reads_with rs part.ticket part.message)
+        → Counts (cond last (record { sent = added q.sent (kind_of part.message); unsent = drop 1 q.unsent; offset = 0 }) (record q { offset = q.offset + part.n })) (us + one_for last) ms ks a (reads_with rs (Some part.ticket) part.message)
     by false is = record {
       order = n.order ∙ ap (λ z. ks ++ z) (sym (kinds_stay false is));
       first = n.first;
       split = n.split;
-      lasts = omega (arith, one_more false is, n.lasts);
+      lasts = omega (arith, n.lasts);
       counted = n.counted;
       oldest = n.oldest;
       marked = n.marked;
@@ -427,7 +435,7 @@ part_counts q us ms ks a rs numbers max part e n =
       order = n.order ∙ ap (λ z. ks ++ z) (sym (kinds_stay true is));
       first = n.first ++ part.message ∷ [];
       split = n.split ∙ ap (λ z. n.first ++ z) (unsent_is ∙ ap (λ z. part.message ∷ z) (sym (ap (drop 1) unsent_is))) ∙ sym (append_assoc n.first (part.message ∷ []) (drop 1 q.unsent));
-      lasts = omega (arith, one_more true is, n.lasts, length_push n.first part.message);
+      lasts = omega (arith, n.lasts, length_push n.first part.message);
       counted = omega (arith, n.counted, length_push n.first part.message, length_push q.sent.messages (mark_of part.message));
       oldest = n.oldest;
       marked = ap (λ z. z ++ mark_of part.message ∷ []) n.marked ∙ sym (drop-push (length ks) (marks a n.first) (mark_of part.message) (omega (arith, short, length-marks a n.first)))
@@ -438,7 +446,7 @@ part_counts q us ms ks a rs numbers max part e n =
     }
 
 -- the ticket of the part that is due is the number of messages that were sent to their end
-pub part_ticket : (q : Queue) (max : ℕ) (part : Part (Request Octets)) (us : List (Segment Octets)) (ms : List (Request Octets)) (ks : List Kind) (a : ℕ) (rs : List Outstanding) → next_part q max ≡ Some part → (n : Counts q us ms ks a rs) → part.ticket ≡ ticket_for (length n.first)
+pub part_ticket : (q : Queue) (max : ℕ) (part : Part (Request Octets)) (us : ℕ) (ms : List (Request Octets)) (ks : List Kind) (a : ℕ) (rs : List Outstanding) → next_part q max ≡ Some part → (n : Counts q us ms ks a rs) → part.ticket ≡ ticket_for (length n.first)
 part_ticket q max part us ms ks a rs e n = ap (λ (p : Part (Request Octets)). p.ticket) (shows q max part e).is ∙ omega (arith, n.oldest, n.counted)
 
 -- the oldest message that was sent, which is handed out
@@ -460,7 +468,7 @@ hands q d e = go q.sent.messages refl e
         by false f h = absurd (none-some _ h)
         by true f h = record { message = m; messages = ms; is = is; finished = f; left = ap (λ z. past_oldest ((q.sent.first + 1) % 2 ^ 64) z q.unsent q.offset) is }
 
-pub handed_counts : (q : Queue) (us : List (Segment Octets)) (ms : List (Request Octets)) (ks : List Kind) (a : ℕ) (rs : List Outstanding) (d : Done) → done_in q ≡ Some d → Counts q us ms ks a rs → Counts (handed_from q (done_in q)) us (ms ++ []) (ks ++ d.kind ∷ []) a rs
+pub handed_counts : (q : Queue) (us : ℕ) (ms : List (Request Octets)) (ks : List Kind) (a : ℕ) (rs : List Outstanding) (d : Done) → done_in q ≡ Some d → Counts q us ms ks a rs → Counts (handed_from q (done_in q)) us (ms ++ []) (ks ++ d.kind ∷ []) a rs
 handed_counts q us ms ks a rs d e n =
     let h = hands q d e in
     let kept : List WasSent = drop (length ks) (marks a n.first) in
@@ -515,42 +523,47 @@ kinds_kept (suc a) (suc b) (suc f) (Read r ∷ xs) = kinds_kept a b f xs
 place_there : (ticket first p f : ℕ) → ticket ≡ p % 2 ^ 64 → first ≡ f % 2 ^ 64 → f ≤ p → p < f + 256 → (ticket + (2 ^ 64 - first)) % 2 ^ 64 ≡ p - f
 place_there ticket first p f a b low high = omega (arith, a, b, low, high)
 
-pub answered_counts : (q : Queue) (us : List (Segment Octets)) (ms : List (Request Octets)) (ks : List Kind) (a : ℕ) (read : Outstanding) (rs : List Outstanding) → length q.sent.messages ≤ 256 → Counts q us ms ks a (read ∷ rs)
-    → Counts (sent_with q (completions.finished q.sent read.ticket)) us (ms ++ []) (ks ++ []) (a + 1) rs
-answered_counts q us ms ks a read rs few n = same_counts refl (append-nil ms) (append-nil ks) (add-one a) refl (go (drop a (places 0 n.first)) refl n.tickets)
+pub answered_counts : (q : Queue) (us : ℕ) (ms : List (Request Octets)) (ks : List Kind) (a : ℕ) (read : Outstanding) (rs : List Outstanding) → length q.sent.messages ≤ 256 → Counts q us ms ks a (read ∷ rs)
+    → (ticket : ℕ) × (read.ticket ≡ Some ticket) × Counts (sent_with q (completions.finished q.sent ticket)) us (ms ++ []) (ks ++ []) (a + 1) rs
+answered_counts q us ms ks a read rs few n =
+    let g = go (drop a (places 0 n.first)) refl n.tickets in
+    (g.0, g.1, same_counts refl (append-nil ms) (append-nil ks) (add-one a) refl g.2)
   where
-    first_or : ℕ → List ℕ → ℕ
+    first_or : Option ℕ → List (Option ℕ) → Option ℕ
     first_or d [] = d
     first_or d (x ∷ xs) = x
 
-    rest_of : List ℕ → List ℕ
+    rest_of : List (Option ℕ) → List (Option ℕ)
     rest_of [] = []
     rest_of (x ∷ xs) = xs
 
-    go : (ps : List ℕ) → drop a (places 0 n.first) ≡ ps → map (λ (r : Outstanding). r.ticket) (read ∷ rs) ≡ map ticket_for ps → Counts (sent_with q (completions.finished q.sent read.ticket)) us ms ks (suc a) rs
+    go : (ps : List ℕ) → drop a (places 0 n.first) ≡ ps → map (λ (r : Outstanding). r.ticket) (read ∷ rs) ≡ map posted_ticket ps → (ticket : ℕ) × (read.ticket ≡ Some ticket) × Counts (sent_with q (completions.finished q.sent ticket)) us ms ks (suc a) rs
     go [] is t = absurd (omega (arith, ap length t))
     go (p ∷ ps) is t =
         let r = next_read a 0 n.first p ps is in
         let low : length ks ≤ p = (let b = r.beyond (length ks) n.done in omega (arith, b)) in
-        let place : place_of q.sent read.ticket ≡ p - length ks = place_there read.ticket q.sent.first p (length ks) (ap (first_or 0) t) n.oldest low (omega (arith, r.high, n.counted, few)) in
+        let place : place_of q.sent (ticket_for p) ≡ p - length ks = place_there (ticket_for p) q.sent.first p (length ks) refl n.oldest low (omega (arith, r.high, n.counted, few)) in
         let mark : WasSent = record { kind = kinds.Read; finished = true } in
-        let marked : slice_set q.sent.messages (place_of q.sent read.ticket) mark ≡ drop (length ks) (marks (suc a) n.first) =
+        let marked : slice_set q.sent.messages (place_of q.sent (ticket_for p)) mark ≡ drop (length ks) (marks (suc a) n.first) =
         (λ i. slice_set (n.marked i) (place i) mark) ∙ sym (drop-set (length ks) p (marks a n.first) mark low)
         ∙ ap (drop (length ks)) (ap (λ j. slice_set (marks a n.first) j mark) (let same : p ≡ p - 0 = omega arith in same) ∙ sym r.marked) in
-        let kinds_are : map (λ (w : WasSent). w.kind) (slice_set q.sent.messages (place_of q.sent read.ticket) mark) ≡ map (λ (w : WasSent). w.kind) q.sent.messages =
-        ap (map (λ (w : WasSent). w.kind)) marked ∙ kinds_kept (suc a) a (length ks) n.first ∙ ap (map (λ (w : WasSent). w.kind)) (sym n.marked) in
-        record {
-          order = n.order ∙ ap (λ z. ks ++ z) (ap (λ z. z ++ map kind_of q.unsent) (sym kinds_are));
-          first = n.first;
-          split = n.split;
-          lasts = n.lasts;
-          counted = n.counted ∙ ap (λ z. length ks + z) (sym (length-set q.sent.messages (place_of q.sent read.ticket) mark));
-          oldest = n.oldest;
-          marked = marked;
-          some = omega (arith, r.some);
-          done = omega (arith, n.done);
-          tickets = ap rest_of t ∙ ap (map ticket_for) (sym (ap (drop 1) is) ∙ drop-drop 1 a (places 0 n.first) ∙ ap (λ z. drop z (places 0 n.first)) (add-one a));
-        }
+        let kinds_are : map (λ (w : WasSent). w.kind) (slice_set q.sent.messages (place_of q.sent (ticket_for p)) mark) ≡ map (λ (w : WasSent). w.kind) q.sent.messages =
+        ap (map (λ (w : WasSent). w.kind)) marked ∙ kinds_kept (suc a) a (length ks) n.first ∙ ap (map (λ (w : WasSent). w.kind)) (sym n.marked) in (
+          ticket_for p,
+          ap (first_or None) t,
+          record {
+            order = n.order ∙ ap (λ z. ks ++ z) (ap (λ z. z ++ map kind_of q.unsent) (sym kinds_are));
+            first = n.first;
+            split = n.split;
+            lasts = n.lasts;
+            counted = n.counted ∙ ap (λ z. length ks + z) (sym (length-set q.sent.messages (place_of q.sent (ticket_for p)) mark));
+            oldest = n.oldest;
+            marked = marked;
+            some = omega (arith, r.some);
+            done = omega (arith, n.done);
+            tickets = ap rest_of t ∙ ap (map posted_ticket) (sym (ap (drop 1) is) ∙ drop-drop 1 a (places 0 n.first) ∙ ap (λ z. drop z (places 0 n.first)) (add-one a));
+          },
+        )
 
 -- ---- Reads by their kinds
 
@@ -581,7 +594,7 @@ pub record Handing (q : Queue) (first posted : List (Request Octets)) (handed : 
   pub order : map kind_of posted ≡ handed ++ kinds_in q
   pub marked : q.sent.messages ≡ drop (length handed) (marks answered first)
 
-pub handing_of : {q : Queue} {us : List (Segment Octets)} {ms : List (Request Octets)} {ks : List Kind} {a : ℕ} {rs : List Outstanding} (n : Counts q us ms ks a rs) → Handing q n.first ms ks a
+pub handing_of : {q : Queue} {us : ℕ} {ms : List (Request Octets)} {ks : List Kind} {a : ℕ} {rs : List Outstanding} (n : Counts q us ms ks a rs) → Handing q n.first ms ks a
 handing_of n = record { order = n.order; marked = n.marked }
 
 pub same_handing : {q q' : Queue} {first ms ms' : List (Request Octets)} {ks ks' : List Kind} {a a' : ℕ} → q' ≡ q → ms' ≡ ms → ks' ≡ ks → a' ≡ a → Handing q first ms ks a → Handing q' first ms' ks' a'

@@ -1,5 +1,5 @@
 -- Where what came is what the other end sent: the segments that had their turn are the first of those that were sent.
-use Rattle.std.proofs.Common.{◌≡◌, ℕ, ◌+◌, ◌-◌, ◌%◌, ◌^◌, ◌≤◌, List, [], ◌∷◌, ◌++◌, length, map, take, Option, Some, None, Bool, true, false, cond, refl, sym, ap, ◌∙◌, subst, arith, append_assoc, length-append, get_or, ◌<◌}
+use Rattle.std.proofs.Common.{◌≡◌, ℕ, ◌+◌, ◌-◌, ◌%◌, ◌^◌, ◌≤◌, List, [], ◌∷◌, ◌++◌, length, map, take, Option, Some, None, Bool, true, false, cond, refl, sym, ap, ◌∙◌, subst, arith, append_assoc, length-append, get_or, ◌<◌, eqb}
 use Rattle.std.specs.Prelude.{All, is_some, nat_eq}
 use Rattle.std.specs.Option.{option_map}
 use Rattle.std.proofs.lemmas.List.{append-nil, map-append, append_cancel_left}
@@ -20,14 +20,17 @@ use Rattle.iw_fpdu.specs.Frame.{max_sent}
 use Rattle.iw_fpdu.specs.Sequence.{Carried, intact, sequence, frames_of, first_frame}
 use Rattle.iw_fpdu.proofs.Follows.{frames_follow}
 use Rattle.iw_fpdu.proofs.Sequences.{first_stays, frames_written}
-use Rattle.iw_queues.specs.Joined.{IsPrefixOf, Cell, completed, joined, sends, count_in, count_writes, count_segments}
+use Rattle.iw_queues.specs.Joined.{IsPrefixOf, Cell, completed, joined, sends, count_in, count_writes, count_before, count_segments}
 use Rattle.iw_queues.specs.Segments.{Numbers, first_numbers, numbers_after, write_segment, send_segment, IsCut, AreSegments, AreSpelled}
 use Rattle.iw_queues.specs.Laws.{IsCovered}
 use Rattle.iw_queues.proofs.Cuts.{in_order as spelled_in_order, covered as spelled_covered}
-use Rattle.iw_stream.specs.Starting.{expecting, first_place_in}
+use Rattle.iw_startup.specs.declared.enhanced.Rtr.{Rtr}
+use Rattle.iw_startup.specs.declared.enhanced.Rtr.TheVariants as rtrs
+use Rattle.iw_stream.specs.Rtr.{rtr_stag, rtr_message}
+use Rattle.iw_stream.specs.Starting.{StartState, expecting, first_place_in, rtr_in}
 use Rattle.iw_stream.specs.Stream.{StreamState}
 use Rattle.iw_stream.specs.Work.{inbox, scene}
-use Rattle.iw_laws.specs.Words.{Octets, Sent, written}
+use Rattle.iw_laws.specs.Words.{Octets, Sent, written, listed}
 use Rattle.iw_laws.specs.Words as words
 use Rattle.iw_laws.proofs.States.{Connected}
 use Rattle.iw_laws.specs.Safe.{CoversWrites}
@@ -58,7 +61,7 @@ use Rattle.iw_octets.specs.Segment.{read_segment}
 use Rattle.iw_octets.proofs.Spelled.{length-tagged_octets, is_tagged-first_octet}
 use Rattle.iw_octets.proofs.Front.{tagged_fields-append, read_segment-long_tagged}
 use Rattle.std.proofs.lemmas.List.{drop_at}
-use Rattle.iw_laws.proofs.Merges.{posts-append, answers-append, goes_to, some_merged}
+use Rattle.iw_laws.proofs.Merges.{with_left, posts-append, answers-append, goes_to, some_merged}
 use Rattle.iw_laws.specs.Merged.{Item, Post, Response, posts_in, answers_in, octets_of, responded, response_segment, AreMerged}
 use Rattle.iw_laws.proofs.Responded.{sent_octets}
 use Rattle.iw_laws.specs.Turns.{Answer}
@@ -69,7 +72,9 @@ use Rattle.iw_reads.specs.declared.requests.Asked.{Asked}
 use Rattle.std.proofs.lemmas.Bool.Decides.{nat_tests}
 use Rattle.iw_laws.proofs.Lists.{Each}
 use Rattle.iw_laws.proofs.Sending.{IsSendable}
-use Rattle.iw_laws.proofs.Owns.{Emits, out_of}
+use Rattle.iw_laws.proofs.Owns.{Emits, out_of, all_begun}
+use Rattle.iw_laws.proofs.Ready.{ready_in}
+use Rattle.iw_queues.specs.Queue.{Queue}
 use Rattle.iw_laws.proofs.Heard.{IsHeard, Bare, Clear}
 use Rattle.iw_laws.proofs.Reached.{reaches}
 
@@ -330,19 +335,52 @@ plain_spelled numbers (Response a ∷ items) ss (mine, later, is, one, rest) =
     subst (AreSpelled numbers 0 (posts_in items)) (sym (ap plain is ∙ plain-append mine later ∙ ap (λ z. z ++ plain later) (none_plain (64512 - 14) a.request 0 a.octets mine one.1)))
     (plain_spelled numbers items later rest)
 
+-- the RTR is no Send, and has no octets
+nothing_in : (c : Cell) (stag : Stag) (to : ℕ) → count_in c stag to [] ≡ 0
+nothing_in c stag to = go (eqb (number_of stag) c.stag)
+  where
+    go : (b : Bool) → ◌≡◌ {A = ℕ} (cond b 0 0) 0
+    go true = refl
+    go false = refl
+
+ready_sends : (start : StartState) (ms : List (Request Octets)) → sends (ready_in start ++ ms) ≡ sends ms
+ready_sends start ms = go (rtr_in start)
+  where
+    go : (o : Option Rtr) → sends (listed (option_map rtr_message o) ++ ms) ≡ sends ms
+    go None = refl
+    go (Some rtrs.Write) = refl
+    go (Some rtrs.Read) = refl
+
+ready_writes : (c : Cell) (start : StartState) (ms : List (Request Octets)) → count_writes c (ready_in start ++ ms) ≡ count_writes c ms
+ready_writes c start ms = go (rtr_in start)
+  where
+    go : (o : Option Rtr) → count_writes c (listed (option_map rtr_message o) ++ ms) ≡ count_writes c ms
+    go None = refl
+    go (Some rtrs.Write) = omega (arith, nothing_in c rtr_stag 0)
+    go (Some rtrs.Read) = refl
+
+ready_before : (c : Cell) (k : ℕ) (start : StartState) (ms : List (Request Octets)) → count_before c k (ready_in start ++ ms) ≡ count_before c k ms
+ready_before c k start ms = go (rtr_in start)
+  where
+    go : (o : Option Rtr) → count_before c k (listed (option_map rtr_message o) ++ ms) ≡ count_before c k ms
+    go None = refl
+    go (Some rtrs.Write) = omega (arith, nothing_in c rtr_stag 0)
+    go (Some rtrs.Read) = refl
+
 -- what was sent goes on to all that was posted and asked for
-pub record Whole (t : Tale) (segments : List (Segment Octets)) (asked : List ReadRequest) (fetched : Octets) : Type 0 where
+pub record Whole (ready : List (Request Octets)) (t : Tale) (segments : List (Segment Octets)) (asked : List ReadRequest) (fetched : Octets) : Type 0 where
   pub items : List Item
   pub later : List (Segment Octets)
   pub merged : AreMerged first_numbers 0 items (segments ++ later)
-  pub posts : posts_in items ≡ t.posted
+  pub posts : posts_in items ≡ ready ++ t.posted
   pub requests : map (λ (a : Answer). a.request) (answers_in items) ≡ asked
   pub octets : responded segments ≡ fetched
 
-pub whole_of : (s : StreamState) (t : Tale) (e : Emits s t) → Whole t e.segments (map (λ (a : Answer). a.request) t.story.answers ++ map (λ (a : Asked). a.request) s.asked.unanswered) (octets_of t.story.answers ++ t.story.begun)
+pub whole_of : (s : StreamState) (t : Tale) (e : Emits s t) → Whole (ready_in s.start) t e.segments (map (λ (a : Answer). a.request) t.story.answers ++ map (λ (a : Asked). a.request) s.asked.unanswered) (octets_of t.story.answers ++ t.story.begun)
 whole_of s t e =
     let k = e.merges in
-    let g = goes_to e.kept s.numbers s.asked.unanswered t.story.begun s.asked.fetched e.asks.fetched e.asks.begun k.apart e.limits.begun in
+    let q : Queue = with_left e.left e.kept in
+    let g = goes_to q s.numbers s.asked.unanswered t.story.begun s.asked.fetched e.asks.fetched e.asks.begun k.apart (all_begun e) in
     let m = some_merged s.numbers (e.kept.offset + length t.story.begun) g.items g.whole in
     record {
       items = k.items ++ g.items;
@@ -351,14 +389,14 @@ whole_of s t e =
       posts = posts-append k.items g.items ∙ ap (λ z. posts_in k.items ++ z) g.posts ∙ k.posts;
       requests = ap (map (λ (a : Answer). a.request)) (answers-append k.items g.items) ∙ map-append (λ (a : Answer). a.request) (answers_in k.items) (answers_in g.items)
           ∙ (λ i. map (λ (a : Answer). a.request) (k.are i) ++ g.requests i);
-      octets = sent_octets e.kept s.numbers s.asked.unanswered t.story.begun k.items g.items e.segments m.0 g.goes k.apart m.1 (k.goes_on g.items m.0 g.goes m.1)
+      octets = sent_octets q s.numbers s.asked.unanswered t.story.begun k.items g.items e.segments m.0 g.goes k.apart m.1 (k.goes_on g.items m.0 g.goes m.1)
           ∙ ap (λ z. octets_of z ++ t.story.begun) k.are;
     }
 
 -- the segments that were sent go on to all that was posted
-record GoesOn (t : Tale) (first : List (Segment Octets)) : Type 0 where
+record GoesOn (ready : List (Request Octets)) (t : Tale) (first : List (Segment Octets)) : Type 0 where
   pub later : List (Segment Octets)
-  pub spelled : AreSpelled first_numbers 0 t.posted (plain first ++ later)
+  pub spelled : AreSpelled first_numbers 0 (ready ++ t.posted) (plain first ++ later)
 
 -- a Terminate is none of them
 plain-farewells : (o : Option Octets) → plain (farewells o) ≡ []
@@ -378,7 +416,7 @@ plain-reread (Tagged head payload ∷ ss) = go (nat_eq (opcode_of head.control) 
     go true e h = ap (λ b. cond b (plain (map reread ss)) (Tagged (tagged_fields (tagged_octets head)) payload ∷ plain (map reread ss))) (ap (λ c. nat_eq (opcode_of c) 2) (same_control head) ∙ e) ∙ h
     go false e h = ap (λ b. cond b (plain (map reread ss)) (Tagged head payload ∷ plain (map reread ss))) e ∙ ap (λ z. Tagged head payload ∷ z) h
 
-goes_on : (s : StreamState) (t : Tale) (e : Emits s t) (first later : List (Segment Octets)) → map reread (out_of s t e) ≡ first ++ later → GoesOn t first
+goes_on : (s : StreamState) (t : Tale) (e : Emits s t) (first later : List (Segment Octets)) → map reread (out_of s t e) ≡ first ++ later → GoesOn (ready_in s.start) t first
 goes_on s t e first later is =
     let w = whole_of s t e in
     let parted : List (Segment Octets) = farewells t.story.farewell in
@@ -439,7 +477,7 @@ received_are c t d u e k (Clear is) of fills =
     let g = goes_on c.stream t e all [] (sym (append-nil all)) in
     let x = delivered c t d u e k (Clear is) of in
     let turns : u.story.turns ≡ length k.segments = omega (arith, k.turns, same_count k.frames k.segments k.carried) in
-    let o = fills us all (all_short out e.good) (sym (read_intact us) ∙ read_again out e.good) (numbered_plain all g.later (are_numbered first_numbers t.posted (plain all ++ g.later) g.spelled refl))
+    let o = fills us all (all_short out e.good) (sym (read_intact us) ∙ read_again out e.good) (numbered_plain all g.later (are_numbered first_numbers (ready_in c.stream.start ++ t.posted) (plain all ++ g.later) g.spelled refl))
     (subst (λ z. IsOf u.story.came (z ++ sequence (expecting d.stream.start) 0 us)) k.begins.octets (subst (IsOf u.story.came) is of)) in
     o.received_are ∙ ap (λ z. map told (joined [] z)) ((λ i. take (turns i) (x.1 i)) ∙ take-append_seam k.segments x.0)
   where
@@ -454,10 +492,10 @@ pub received_prefix : (c : Connected) (t : Tale) (d : Connected) (u : Tale) (e :
 received_prefix c t d u e k heard of fills =
     let x = delivered c t d u e k heard of in
     let g = goes_on c.stream t e k.segments x.0 x.1 in
-    let p = spelled_in_order first_numbers t.posted (plain k.segments) g.later g.spelled in (
+    let p = spelled_in_order first_numbers (ready_in c.stream.start ++ t.posted) (plain k.segments) g.later g.spelled in (
       map told p.0,
       ap (λ z. z ++ map told p.0) (received_are c t d u e k heard of fills ∙ ap (map told) (sym (joined-plain [] k.segments)))
-          ∙ sym (map-append told (joined [] (plain k.segments)) p.0) ∙ ap (map told) p.1 ∙ sends_whole t.posted e.fit,
+          ∙ sym (map-append told (joined [] (plain k.segments)) p.0) ∙ ap (map told) (p.1 ∙ ready_sends c.stream.start t.posted) ∙ sends_whole t.posted e.fit,
     )
 
 -- ---- Writes
@@ -470,7 +508,8 @@ all_few : (s : StreamState) (t : Tale) (e : Emits s t) (cell : Cell) → count_s
 all_few s t e cell =
     let all : List (Segment Octets) = map reread (out_of s t e) in
     let g = goes_on s t e all [] (sym (append-nil all)) in
-    covers_plain cell all ((spelled_covered first_numbers t.posted (plain all) g.later g.spelled cell).most)
+    let covered : IsCovered cell (ready_in s.start ++ t.posted) (plain all) = spelled_covered first_numbers (ready_in s.start ++ t.posted) (plain all) g.later g.spelled cell in
+    covers_plain cell all (subst (λ n. count_segments cell (plain all) ≤ n) (ready_writes cell s.start t.posted) covered.most)
 
 -- what was placed is not more than what was posted
 most : (c : Connected) (t : Tale) (d : Connected) (u : Tale) (e : Emits c.stream t) (k : Track d.stream u) → IsHeard c t d u (out_of c.stream t e) k → IsOf u.story.came t.sent → (cell : Cell) → count_writes cell (written u.placings) ≤ count_writes cell t.posted
@@ -497,9 +536,9 @@ pub writes_covered : (c : Connected) (t : Tale) (d : Connected) (u : Tale) (e : 
 writes_covered c t d u e k heard of cell =
     let x = delivered c t d u e k heard of in
     let g = goes_on c.stream t e k.segments x.0 x.1 in
-    let covered : IsCovered cell t.posted (plain k.segments) = spelled_covered first_numbers t.posted (plain k.segments) g.later g.spelled cell in
+    let covered : IsCovered cell (ready_in c.stream.start ++ t.posted) (plain k.segments) = spelled_covered first_numbers (ready_in c.stream.start ++ t.posted) (plain k.segments) g.later g.spelled cell in
     let few : length u.received ≡ length (joined [] (plain k.segments)) = k.joins.completed_are ∙ ap length (sym (joined-plain [] k.segments)) in
     record {
-      before = λ n lt. omega (arith, covered.before n (omega (arith, lt, few)), k.early.written_are cell, k.joins.counted cell, count-plain cell k.segments);
+      before = λ n lt. omega (arith, covered.before n (omega (arith, lt, few)), ready_before cell n c.stream.start t.posted, k.early.written_are cell, k.joins.counted cell, count-plain cell k.segments);
       most = most c t d u e k heard of cell;
     }

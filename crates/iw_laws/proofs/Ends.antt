@@ -1,6 +1,6 @@
 -- What one more act does to the streams of an end, and to what its acts say of them.
 use Rattle.std.proofs.Common.{◌≡◌, ◌≢◌, ℕ, zero, suc, ◌<◌, List, [], ◌∷◌, ◌++◌, length, replicate, Option, Some, None, Ok, Err, Bool, true, false, cond, eqb, refl, sym, ap, ◌∙◌, subst, arith, eqb-true}
-use Rattle.std.specs.Prelude.{slice_set, slice_index_or, unwrap_or, is_some, not, nat_le, Result}
+use Rattle.std.specs.Prelude.{slice_set, slice_index_or, unwrap_or, is_some, not, nat_le, Result, IfSome, ◌||◌}
 use Rattle.std.specs.Option.{option_map, option_or}
 use Rattle.std.proofs.lemmas.Option.{none-some}
 use Rattle.std.proofs.lemmas.Bool.Decides.{nat_tests}
@@ -13,7 +13,7 @@ use Rattle.iw_reads.specs.declared.response.ResponsePart.{ResponsePart}
 use Rattle.iw_untagged.specs.Receiving.{Source, Posted, Pooled, exchanged, nothing_received, sharing, shares_pool, with_last}
 use Rattle.iw_stream.proofs.Sharing.{work_shares}
 use Rattle.iw_stream.specs.Work.{worked}
-use Rattle.iw_stream.specs.Stream.{StreamState, shares, sees, after_emit, left_fetched, left_due, frame_fetched, Due, StartUp, LastWord, Response as ResponseDue, NextPart, NoneDue, due}
+use Rattle.iw_stream.specs.Stream.{StreamState, shares, sees, after_emit, left_fetched, left_due, frame_fetched, Due, StartUp, LastWord, Response as ResponseDue, NextPart, NoneDue, due, Ready, opened, opened_shared}
 use Rattle.iw_stream.specs.declared.answer.OpenRefusal.{OpenRefusal}
 use Rattle.iw_stream.specs.declared.answer.OpenRefusal.TheVariants.{NumberTaken, BadNumber, NoDomain}
 use Rattle.iw_events.specs.declared.act.Act.{Act}
@@ -25,12 +25,12 @@ use Rattle.iw_stream.specs.declared.answer.Role.{Role}
 use Rattle.iw_laws.specs.Words.{Octets, Opening, stream_acts, stream_acts_by, openings, openings_by, opening_in, opening_of, config_for, was_opened, domain_of, table_after, table_by}
 use Rattle.iw_endpoint.specs.declared.refusal.OpenSharedRefusal.{OpenSharedRefusal}
 use Rattle.iw_endpoint.specs.Endpoint as endpoint
-use Rattle.iw_endpoint.specs.Endpoint.{EndpointState, pool_of, left_of, open_shared_refusal, open_shared_refusal_of, number_refusal, request_refusal, unshared, stream_at, stream_numbers, unopened as no_stream, stream_of, has_stream, open_refusal}
+use Rattle.iw_endpoint.specs.Endpoint.{EndpointState, pool_of, left_of, open_shared_refusal, open_shared_refusal_of, number_refusal, request_refusal, unshared, stream_at, stream_numbers, unopened as no_stream, stream_of, has_stream, open_refusal, no_closed, closed_at}
 use Rattle.iw_endpoint.specs.Isolation.{HasDomains, IsOwn, after, unless}
 use Rattle.iw_endpoint.proofs.Steps.{concerns_one}
 use Rattle.iw_endpoint.proofs.Tables.{worked_domain, emit_domain}
 use Rattle.iw_laws.specs.Rules.{EndState, Rule, EndRule, end_after, call_made}
-use Rattle.iw_laws.proofs.States.{opening_by, connected, left_at, streams_after, streams_left, table_left, length-wires, shares_lent}
+use Rattle.iw_laws.proofs.States.{opening_by, connected, left_at, streams_after, streams_left, closed_left, table_left, length-wires, shares_lent}
 use Rattle.iw_laws.proofs.Tales.{table-push, stream_acts-push, openings-push}
 
 pub there : {A : Type 0} (xs : List (Option A)) (i : ℕ) → is_some (slice_index_or xs i None) ≡ true → i < length xs
@@ -50,6 +50,7 @@ pub record EndSeen (s : EndState) (done : List (Act Octets)) : Type 0 where
   pub domains : HasDomains s.endpoint
   pub numbers : length s.endpoint.streams ≡ 64
   pub wires : length s.wires ≡ 64
+  pub none_closed : s.endpoint.closed ≡ no_closed
   pub opened : (n : ℕ) → has_stream s.endpoint n ≡ was_opened (openings n done)
   pub domain : (n : ℕ) → has_stream s.endpoint n ≡ true → (stream_at s.endpoint n).domain ≡ domain_of n done
   pub pooled : (n : ℕ) → has_stream s.endpoint n ≡ true → shares (stream_at s.endpoint n) ≡ (opening_of n done).shared
@@ -65,13 +66,27 @@ pub record Opens (s : EndState) (n : ℕ) : Type 0 where
   pub number : n < 64
 
 pub numbered : (s : EndState) (n pd : ℕ) → None ≡ number_refusal s.endpoint n pd → Opens s n
-numbered s n pd e = go (has_stream s.endpoint n) (nat_le stream_numbers n) refl refl (is_added s.endpoint.table pd) e
+numbered s n pd e = go (nat_le stream_numbers n) (has_stream s.endpoint n) (is_some (closed_at s.endpoint n)) refl refl (is_added s.endpoint.table pd) e
   where
-    go : (has beyond : Bool) → has_stream s.endpoint n ≡ has → nat_le stream_numbers n ≡ beyond → (added : Bool)
-        → None ≡ cond has (Some NumberTaken) (cond beyond (Some BadNumber) (cond (not added) (Some NoDomain) None)) → Opens s n
-    go true b h z added e' = cc
-    go false true h z added e' = cc
-    go false false h z added e' = record { fresh = h; number = grind (arith, nat_tests) }
+    go : (beyond has ended : Bool) → nat_le stream_numbers n ≡ beyond → has_stream s.endpoint n ≡ has → (added : Bool)
+        → None ≡ cond beyond (Some BadNumber) (cond (has || ended) (Some NumberTaken) (cond (not added) (Some NoDomain) None)) → Opens s n
+    go true has ended z h added e' = cc
+    go false true ended z h added e' = cc
+    go false false true z h added e' = cc
+    go false false false z h added e' = record { fresh = h; number = grind (arith, nat_tests) }
+
+-- no number is of a stream that was closed
+pub never_closed : (n : ℕ) → slice_index_or no_closed n None ≡ None
+unfolding no_closed
+never_closed n = none_in 64 n
+  where
+    none_in : (k n : ℕ) → slice_index_or (replicate {A = Option ℕ} k None) n None ≡ None
+    none_in zero n = refl
+    none_in (suc k) zero = refl
+    none_in (suc k) (suc n) = none_in k n
+
+pub closed_none : (e : EndpointState) (n : ℕ) → e.closed ≡ no_closed → closed_at e n ≡ None
+closed_none e n none = ap (λ xs. slice_index_or xs n None) none ∙ never_closed n
 
 pub opens : (s : EndState) (n pd : ℕ) (role : Role) (config : Config) → None ≡ open_refusal s.endpoint n pd role config → Opens s n
 opens s n pd role config e = numbered s n pd (go (number_refusal s.endpoint n pd) e)
@@ -103,6 +118,7 @@ emit_shares table s = go (due s)
     go : (k : Due) → shares (left_due table s k) ≡ shares s
     go StartUp = refl
     go (LastWord payload) = refl
+    go (Ready rtr) = refl
     go (ResponseDue part) = fetched part (frame_fetched table s part)
     go (NextPart part) = refl
     go NoneDue = refl
@@ -262,38 +278,39 @@ numbers_after s (OpenShared m pd role options private None) = length-set s.endpo
 numbers_after s (Stream m act) = length-set s.endpoint.streams m (Some (left_at s.endpoint m act))
 
 -- there is a place for each domain
-domains_after : (e : EndpointState) (act : Act Octets) → EndRule e act → HasDomains e → HasDomains (after e (call_made act))
-domains_after e (Domain pd refused) rule all = (concerns_one pd e (call_made (Domain pd refused)) all refl).domains
-domains_after e (Register pd base rights octets answer) rule all = (concerns_one pd e (call_made (Register pd base rights octets answer)) all refl).domains
-domains_after e (Deregister stag answer) rule all = (concerns_one stag.domain e (call_made (Deregister stag answer)) all refl).domains
-domains_after e (Invalidate stag refused) rule all = (concerns_one stag.domain e (call_made (Invalidate stag refused)) all refl).domains
-domains_after e (Store stag to octets refused) rule all = (concerns_one stag.domain e (call_made (Store stag to octets refused)) all refl).domains
-domains_after e (Share pd refused) rule all = (concerns_one pd e (call_made (Share pd refused)) all refl).domains
-domains_after e (Pool pd len refused) rule all = (concerns_one pd e (call_made (Pool pd len refused)) all refl).domains
-domains_after e (Unpool pd answer) rule all = (concerns_one pd e (call_made (Unpool pd answer)) all refl).domains
-domains_after e (Open n pd role options private refused) rule all = go (endpoint.open_refusal e n pd role (config_for options private))
+domains_after : (e : EndpointState) (act : Act Octets) → e.closed ≡ no_closed → EndRule e act → HasDomains e → HasDomains (after e (call_made act))
+domains_after e (Domain pd refused) none rule all = (concerns_one pd e (call_made (Domain pd refused)) all refl).domains
+domains_after e (Register pd base rights octets answer) none rule all = (concerns_one pd e (call_made (Register pd base rights octets answer)) all refl).domains
+domains_after e (Deregister stag answer) none rule all = (concerns_one stag.domain e (call_made (Deregister stag answer)) all refl).domains
+domains_after e (Invalidate stag refused) none rule all = (concerns_one stag.domain e (call_made (Invalidate stag refused)) all refl).domains
+domains_after e (Store stag to octets refused) none rule all = (concerns_one stag.domain e (call_made (Store stag to octets refused)) all refl).domains
+domains_after e (Share pd refused) none rule all = (concerns_one pd e (call_made (Share pd refused)) all refl).domains
+domains_after e (Pool pd len refused) none rule all = (concerns_one pd e (call_made (Pool pd len refused)) all refl).domains
+domains_after e (Unpool pd answer) none rule all = (concerns_one pd e (call_made (Unpool pd answer)) all refl).domains
+domains_after e (Open n pd role options private refused) none rule all = go (endpoint.open_refusal e n pd role (config_for options private))
   where
     go : (o : Option OpenRefusal) → HasDomains (unless o e (endpoint.opened e n pd role (config_for options private)))
-    go None = all
+    go None = (all.0, all.1, omega (arith, all.2, length-set e.streams n (Some (opened pd role (config_for options private)))))
     go (Some r) = all
-domains_after e (OpenShared n pd role options private refused) rule all = go (endpoint.open_shared_refusal e n pd role (config_for options private))
+domains_after e (OpenShared n pd role options private refused) none rule all = go (endpoint.open_shared_refusal e n pd role (config_for options private))
   where
     go : (o : Option OpenSharedRefusal) → HasDomains (unless o e (endpoint.opened_shared e n pd role (config_for options private)))
-    go None = all
+    go None = (all.0, all.1, omega (arith, all.2, length-set e.streams n (Some (opened_shared pd role (config_for options private)))))
     go (Some r) = all
-domains_after e (Stream n act) rule all = go (stream_of e n) refl rule.0
+domains_after e (Stream n act) none rule all = go (stream_of e n) refl rule.0
   where
     go : (o : Option StreamState) → stream_of e n ≡ o → is_some o ≡ true → HasDomains (after e (call_made (Stream n act)))
     go None is there = absurd (false≢true there)
-    go (Some x) is there = (concerns_one x.domain e (call_made (Stream n act)) all (subst (IsOwn x.domain) (sym is) refl)).domains
+    go (Some x) is there = (concerns_one x.domain e (call_made (Stream n act)) all (subst (IsOwn x.domain) (sym is) refl, subst (λ o. IfSome o (λ d. d ≡ x.domain)) (sym (closed_none e n none)) tt)).domains
 
 -- an act that the rules give keeps what the end has in common with what was done
 pub end_step : (s peer : EndState) (done : List (Act Octets)) (act : Act Octets) → EndSeen s done → Rule s peer act → EndSeen (end_after s act) (done ++ act ∷ [])
 end_step s peer done act k rule = record {
   table = table_left s.endpoint act rule.0 ∙ ap (λ z. table_by z act) k.table ∙ sym (table-push done act);
-  domains = domains_after s.endpoint act rule.0 k.domains;
+  domains = domains_after s.endpoint act k.none_closed rule.0 k.domains;
   numbers = ap length (streams_left s.endpoint act rule.0) ∙ numbers_after s act ∙ k.numbers;
   wires = length-wires s act ∙ k.wires;
+  none_closed = closed_left s.endpoint act ∙ k.none_closed;
   opened = λ n. (number_after s peer done act n k rule).has;
   domain = λ n. (number_after s peer done act n k rule).domain;
   pooled = λ n. (number_after s peer done act n k rule).pooled;

@@ -41,7 +41,7 @@ use Rattle.iw_stream.specs.Frames as frames
 use Rattle.iw_octets.specs.Operation.{opcode_of, untagged_operation}
 use Rattle.iw_stream.specs.Judging as judging
 use Rattle.iw_stream.specs.Starting.{is_open, expecting, first_place_in}
-use Rattle.iw_stream.specs.Stream.{StreamState, Due, StartUp, LastWord, Response, NextPart, NoneDue, due, ended}
+use Rattle.iw_stream.specs.Stream.{StreamState, Due, StartUp, LastWord, Response, NextPart, NoneDue, due, ended, Ready}
 use Rattle.iw_stream.specs.Work.{scene, waiting, inbox}
 use Rattle.iw_laws.proofs.Rooms.{heard_open}
 use Rattle.iw_stream.specs.Work as work
@@ -563,6 +563,7 @@ shown_filled s t (shows.Frame from octets) runs k = go (due s) runs
     go StartUp r = leaves s (left_frame s StartUp) t (shows.Frame from octets) refl refl refl refl r k
     go (LastWord payload) r = leaves s (left_frame s (LastWord payload)) t (shows.Frame from octets) refl refl refl refl r k
     go (NextPart part) r = leaves s (left_frame s (NextPart part)) t (shows.Frame from octets) refl refl refl refl r k
+    go (Ready rtr) r = leaves s (left_frame s (Ready rtr)) t (shows.Frame from octets) refl refl refl refl r k
     go (Response part) r = leaves s s t (shows.Frame from octets) refl refl refl refl r k
     go NoneDue r = leaves s s t (shows.Frame from octets) refl refl refl refl r k
 shown_filled s t (shows.Fetched from frame stag to octets) runs k = leaves s (after_shown s (shows.Fetched from frame stag to octets)) t (shows.Fetched from frame stag to octets) refl refl refl refl runs k

@@ -7,7 +7,7 @@ use Rattle.std.proofs.lemmas.List.{append-nil, length-map}
 use Rattle.std.specs.Prelude.{option_map, is_some, not, nat_eq, nat_le, nat_lt, min, Bool, ◌&&◌, ◌||◌, Result, IfOk}
 use Rattle.std.specs.Result.{result_err}
 use Rattle.std.specs.Option.{option_map, option_map_or, option_or}
-use Rattle.std.proofs.lemmas.Bool.{false≢true}
+use Rattle.std.proofs.lemmas.Bool.{false≢true, true≢false}
 use Rattle.iw_octets.specs.Segment.{segment_octets}
 use Rattle.iw_memory.specs.declared.refusal.RegisterRefusal.{RegisterRefusal}
 use Rattle.iw_memory.specs.declared.refusal.RegisterRefusal.TheVariants as register_refusals
@@ -25,7 +25,7 @@ use Rattle.iw_octets.specs.declared.operation.UntaggedOperation.TheVariants as u
 use Rattle.iw_octets.specs.Operation.{control_of, tagged_opcode, untagged_opcode}
 use Rattle.iw_stream.specs.Starting as starting
 use Rattle.iw_stream.specs.Starting.{most_reads_in, sending, own_frame, first_place_out, agreement_in}
-use Rattle.iw_stream.specs.Stream.{StreamState, is_read, may_go, part_due, response_due, owes_frame, recv_refusal, recv_refusal_of, post_refusal, post_refusal_of, answer_refusal, delivery_of, ended, place_of, left_out}
+use Rattle.iw_stream.specs.Stream.{StreamState, is_read, may_go, part_due, response_due, owes_frame, rtr_due, recv_refusal, recv_refusal_of, post_refusal, post_refusal_of, answer_refusal, delivery_of, ended, place_of, left_out}
 use Rattle.iw_stream.specs.Ending.{has_ended, is_broken, last_word}
 use Rattle.iw_stream.specs.Work as work
 use Rattle.iw_stream.specs.declared.answer.PostRefusal.TheVariants as post_refusals
@@ -80,16 +80,16 @@ use Rattle.iw_events.specs.declared.act.Seen.TheVariants as seen
 use Rattle.iw_events.specs.declared.act.Entry.{Entry}
 use Rattle.iw_laws.specs.Words.{Octets, other, acts, deed, private_data, config_for, handed_kinds, size_set, stream_acts, Opening, opening_in, opening_of, openings, was_opened, domain_of, posted, sends, received, ended as has_ended_by, sent, placings, written, sunk, finished_kinds, table_after}
 use Rattle.iw_laws.specs.Safe.{IsHonest, InOrder, CoversWrites, Covered, Fits, Within, WithinStream}
-use Rattle.iw_laws.specs.Merged.{AreMerged, posts_in, response_segment}
+use Rattle.iw_laws.specs.Merged.{AreMerged, response_segment}
 use Rattle.iw_laws.specs.Faithful.{FetchShown, FetchStream, count_done, AnswersReads, Answering}
-use Rattle.iw_laws.specs.Sends.{farewells, terminate_segment, IsStartFrame, IsLastWord, AreFirstFrames, Emission, AreAllFrames, HasNothing, Over, Closed, AllSent, ReadWaits, MaySend, FewReads, NothingShown, NothingStream, NothingOnlyAtRest, FrameSized, SizedStream, Sized, FrameAllowed, SpeaksStream, Speaks, CanFinish, FinishedStream, Finished}
+use Rattle.iw_laws.specs.Sends.{farewells, ready_of, terminate_segment, IsStartFrame, IsLastWord, AreFirstFrames, Emission, AreAllFrames, HasNothing, Over, Closed, AllSent, ReadWaits, MayRespond, MaySend, FewReads, NothingShown, NothingStream, NothingOnlyAtRest, FrameSized, SizedStream, Sized, FrameAllowed, SpeaksStream, Speaks, CanFinish, FinishedStream, Finished}
 use Rattle.iw_laws.specs.Sends.{Silent as Muted}
 use Rattle.iw_laws.specs.Turns.{Answer, Story, is_last, story, story_of, receiving_of, standing, TurnsSeen, TurnsStream, Turns, in_order_point}
 use Rattle.iw_laws.specs.Rest.{IdleStream, IdleOnlyAtRest}
 use Rattle.iw_laws.specs.Ends.{HoldsNoMessage, HoldsNothing, EndSeen, IsStartDue, EndShown, EndsStream, Ends}
 use Rattle.iw_laws.specs.Calls.{deregister_answer, invalidate_refusal, IsNew, number_refusal_by, open_refusal_by, open_shared_refusal_by, EndAnswered, ShowsMemory, recv_refusal_by, post_refusal_by, answer_refusal_by, StreamAnswered, AnsweredStream, Answered, delivery_by, KeptStream, KeepsOctets, IsCarried, CarriedStream, CarriesOctets, OpenedStream, OpensFirst}
 use Rattle.iw_laws.specs.Words.{OnSome, OnStream, AtEach}
-use Rattle.iw_endpoint.specs.Endpoint.{stream_numbers, pool_of, stream_at, share_fault, pool_fault, take_fault, taken, open_shared_refusal_of, unshared, has_stream, number_refusal, request_refusal, open_refusal, open_shared_refusal}
+use Rattle.iw_endpoint.specs.Endpoint.{is_taken, stream_numbers, pool_of, stream_at, share_fault, pool_fault, take_fault, taken, open_shared_refusal_of, unshared, has_stream, number_refusal, request_refusal, open_refusal, open_shared_refusal}
 use Rattle.iw_endpoint.specs.Isolation.{answer_or}
 use Rattle.iw_laws.specs.Rules.{EndState, State, end_of, start, Rule, EndRule, PeerRule, WireRule, StreamRule, needs_peer, state_after, Follows, wire_at}
 use Rattle.iw_events.specs.Events.{stream_call_of}
@@ -106,13 +106,15 @@ use Rattle.iw_laws.proofs.Answers.{answers, idles, idle_unfinished}
 use Rattle.iw_laws.proofs.Tales.{Tale, tale_of}
 use Rattle.iw_laws.proofs.Counts.{plain_part, message_at}
 use Rattle.iw_laws.proofs.Merges.{asked_or}
-use Rattle.iw_laws.proofs.Sending.{shown_good, Rests, Ended, Shut, Silent, Sent, MaySpeak, none_left, shows, EmitsStart, EmitsLast, EmitsPart, EmitsResponse, emits_as, terminate_small, terminate_good}
-use Rattle.iw_laws.proofs.Owns.{first_fits, Own, out_of, alone_out, lives, all_spoken, owes_some, runs_unbroken, answers_part, part_is_of, frame_plain, within, WithinTale, IsFramed, Unspoken, Spoken, below, past_start, before_start as owes_start}
-use Rattle.iw_laws.proofs.Messages.{start_frame_is, open_is, sequence_is, can_finish, cannot_finish}
+use Rattle.iw_laws.proofs.Sending.{shown_good, Rests, Ended, Shut, Silent, Sent, MaySpeak, none_left, shows, EmitsStart, EmitsLast, EmitsReady, EmitsPart, EmitsResponse, emits_as, terminate_small, terminate_good, rtr_good, rtr_small, rtr_plain, rtr_last}
+use Rattle.iw_laws.proofs.Ready.{ready_in}
+use Rattle.iw_stream.specs.Rtr.{rtr_segment}
+use Rattle.iw_laws.proofs.Owns.{ready_gone, not_rtr, first_fits, Own, out_of, alone_out, lives, all_spoken, owes_some, runs_unbroken, answers_part, part_is_of, frame_plain, within, WithinTale, IsFramed, Unspoken, Spoken, below, past_start, before_start as owes_start}
+use Rattle.iw_laws.proofs.Messages.{items_are, start_frame_is, open_is, sequence_is, can_finish, cannot_finish}
 use Rattle.iw_laws.proofs.Heard.{IsHeard, hears_all}
 use Rattle.iw_laws.proofs.Delivered.{whole_of, received_prefix, writes_covered}
 use Rattle.iw_laws.proofs.Placed.{reads_answered}
-use Rattle.iw_laws.proofs.Ends.{there, EndSeen as EndKept, unopened}
+use Rattle.iw_laws.proofs.Ends.{there, EndSeen as EndKept, unopened, closed_none}
 use Rattle.iw_laws.specs.Early.{JudgesEarly, ChecksOnce}
 use Rattle.iw_laws.specs.Once.{AreOnce, PlacesOnce, spans_placed}
 use Rattle.iw_laws.proofs.EarlyLaws.{judges_early, checks_once}
@@ -165,7 +167,7 @@ fits_both a b (inr (inr f)) = inr (inl (f.1, f.0))
 
 -- what was answered is what was asked for, and is placed
 answers_reads : (past : List (Entry Octets)) (w : State) → BothSeen past w → (x : End) (n : ℕ) → IsHonest n past
-    → AnswersReads (story_of n (acts x past)) (posted (stream_acts n (acts (other x) past))) (sunk (placings (stream_acts n (acts (other x) past)))) (count_done (finished_kinds (stream_acts n (acts (other x) past))))
+    → AnswersReads (story_of n (acts x past)) (ready_of (story_of n (acts (other x) past))) (posted (stream_acts n (acts (other x) past))) (sunk (placings (stream_acts n (acts (other x) past)))) (count_done (finished_kinds (stream_acts n (acts (other x) past))))
 answers_reads past w k x n honest =
     let p = k.pairs x n in
     let o : Opening = opening_of n (acts x past) in
@@ -244,7 +246,7 @@ first_frames past w k x n =
     let all = whole_of s t e in
     record {
       items = all.items;
-      posts = all.posts;
+      posts = all.posts ∙ ap (λ z. ready_in z ++ posted (stream_acts n (acts x past))) (sym own.track.begins.start);
       answers = all.requests ∙ ap (λ (z : Requested). map (λ (a : Answer). a.request) t.story.answers ++ map (λ (a : Asked). a.request) z.unanswered) (sym e.asks.asked);
       fetched = all.octets;
       begun = e.segments;
@@ -268,8 +270,8 @@ pub emission : (trace : List (Entry Octets)) → Follows start trace → Emissio
 emission trace follows past future is x n = first_frames past (state_after start past) (seen_at past future trace follows is) x n
 
 -- where no part of a message was begun, and no request waits, what was sent is all frames of messages and responses
-all_frames : (o : Opening) (c : Connected) (t : Tale) (own : Own o c t) → ended c.stream ≡ false → owes_frame c.stream ≡ false → c.stream.queue.offset ≡ 0 → c.stream.asked.unanswered ≡ [] → AreAllFrames t.story t.sent (posts_in own.emits.merges.items)
-all_frames o c t own running owes unbegun none =
+all_frames : (o : Opening) (c : Connected) (t : Tale) (own : Own o c t) → ended c.stream ≡ false → owes_frame c.stream ≡ false → c.stream.queue.offset ≡ 0 → c.stream.asked.unanswered ≡ [] → own.emits.left ≡ [] → AreAllFrames t.story t.sent own.emits.counts.first
+all_frames o c t own running owes unbegun none gone =
     let e = own.emits in
     let k = e.merges in
     let l = e.live running in
@@ -280,7 +282,7 @@ all_frames o c t own running owes unbegun none =
     let all : out_of c.stream t e ≡ e.segments = alone_out e.segments (farewells t.story.farewell) (lives c.stream t e running).none in
     record {
       items = k.items;
-      posts = refl;
+      posts = items_are c.stream t e gone ∙ ap (λ z. ready_in z ++ e.counts.first) (sym own.track.begins.start);
       answers = k.are;
       none_waits = ap (λ (z : Requested). z.unanswered) e.asks.asked ∙ none;
       frames = record {
@@ -337,25 +339,27 @@ nothing_stream o c done queue table (Emit Nothing) rule own =
         let frames : List ℕ = sequence (sending c.stream.start) 0 (map segment_octets (out_of c.stream (tale_with o done queue) own.emits)) in
         (frames, ap (λ z. z ++ frames) (start_frame_is c.stream (tale_with o done queue) own.track) ∙ sym (past_start c.stream (tale_with o done queue) own.emits own.sent (all_spoken c.stream owes unbroken)))
 
-    all : ended c.stream ≡ false → owes_frame c.stream ≡ false → response_due c.stream ≡ None → (c.stream.queue.unsent ≡ []) ⊎ WaitsFor c.stream → HasNothing (has_ended_by done) (story_with o done queue) (sent done) (posted done)
-    all running owes quiet (inl left) =
+    all : ended c.stream ≡ false → owes_frame c.stream ≡ false → rtr_due c.stream ≡ None → response_due c.stream ≡ None → (c.stream.queue.unsent ≡ []) ⊎ WaitsFor c.stream → HasNothing (has_ended_by done) (story_with o done queue) (sent done) (posted done)
+    all running owes unready quiet (inl left) =
         let e = own.emits in
         let l = lives c.stream (tale_with o done queue) e running in
         let unbegun : c.stream.queue.offset ≡ 0 = subst (λ z. IsBegun z c.stream.queue.offset) left l.limits.begun in
         let none : e.kept.unsent ≡ [] = ap (λ (q : Queue). q.unsent) (sym (e.live running).queue) ∙ left in
-        let whole : posts_in e.merges.items ≡ posted done = sym (append-nil (posts_in e.merges.items)) ∙ ap (λ z. posts_in e.merges.items ++ z) (sym none) ∙ e.merges.posts in
-        AllSent (subst (AreAllFrames (story_with o done queue) (sent done)) whole (all_frames o c (tale_with o done queue) own running owes unbegun (none_waits c.stream unbegun quiet)))
-    all running owes quiet (inr w) =
+        let whole : e.counts.first ≡ posted done = sym (append-nil e.counts.first) ∙ ap (λ z. e.counts.first ++ z) (sym none) ∙ sym e.counts.split in
+        let gone : e.left ≡ [] = ready_gone c.stream (tale_with o done queue) e own.sent running owes unready in
+        AllSent (subst (AreAllFrames (story_with o done queue) (sent done)) whole (all_frames o c (tale_with o done queue) own running owes unbegun (none_waits c.stream unbegun quiet) gone))
+    all running owes unready quiet (inr w) =
         let e = own.emits in
         let l = lives c.stream (tale_with o done queue) e running in
         let unbegun : c.stream.queue.offset ≡ 0 = zero_of c.stream.queue.offset (subst (λ z. IsBegun z c.stream.queue.offset) w.unsent l.limits.begun) in
-        let items : List (Request Octets) = posts_in e.merges.items in
+        let items : List (Request Octets) = e.counts.first in
+        let gone : e.left ≡ [] = ready_gone c.stream (tale_with o done queue) e own.sent running owes unready in
         let unsent : e.kept.unsent ≡ Read w.request ∷ w.messages = ap (λ (q : Queue). q.unsent) (sym (e.live running).queue) ∙ w.unsent in
-        let split : posted done ≡ items ++ Read w.request ∷ w.messages = sym e.merges.posts ∙ ap (λ z. items ++ z) unsent in
+        let split : posted done ≡ items ++ Read w.request ∷ w.messages = e.counts.split ∙ ap (λ z. items ++ z) unsent in
         let here : slice_get (posted done) (length items) ≡ Some (Read w.request) = ap (λ z. slice_get z (length items)) split ∙ get_after items (Read w.request) w.messages in
         let firsts : items ≡ take (length items) (posted done) = sym (take-append_seam items (Read w.request ∷ w.messages)) ∙ ap (take (length items)) (sym split) in
         ReadWaits (length items) w.request here (omega (arith, w.full, ap length e.asks.reads, ap most_reads_in own.track.begins.start))
-        (subst (AreAllFrames (story_with o done queue) (sent done)) firsts (all_frames o c (tale_with o done queue) own running owes unbegun (none_waits c.stream unbegun quiet)))
+        (subst (AreAllFrames (story_with o done queue) (sent done)) firsts (all_frames o c (tale_with o done queue) own running owes unbegun (none_waits c.stream unbegun quiet) gone))
       where
         zero_of : (n : ℕ) → (0 < n → n < 0) → n ≡ 0
         zero_of zero h = refl
@@ -365,15 +369,15 @@ nothing_stream o c done queue table (Emit Nothing) rule own =
         get_after [] m ms = refl
         get_after (x ∷ xs) m ms = get_after xs m ms
 
-    runs_or : (b : Bool) → ended c.stream ≡ b → owes_frame c.stream ≡ false → response_due c.stream ≡ None → part_due c.stream ≡ None → HasNothing (has_ended_by done) (story_with o done queue) (sent done) (posted done)
-    runs_or true over owes quiet none = Over (sym own.ended ∙ over)
-    runs_or false running owes quiet none = all running owes quiet (part_waits c.stream none)
+    runs_or : (b : Bool) → ended c.stream ≡ b → owes_frame c.stream ≡ false → rtr_due c.stream ≡ None → response_due c.stream ≡ None → part_due c.stream ≡ None → HasNothing (has_ended_by done) (story_with o done queue) (sent done) (posted done)
+    runs_or true over owes unready quiet none = Over (sym own.ended ∙ over)
+    runs_or false running owes unready quiet none = all running owes unready quiet (part_waits c.stream none)
 
     go : owes_frame c.stream ≡ false → Rests c.stream → HasNothing (has_ended_by done) (story_with o done queue) (sent done) (posted done)
     go owes (Ended over) = Over (sym own.ended ∙ over)
     go owes (Shut closed) = Closed (open_is c.stream (tale_with o done queue) own.track ∙ closed)
     go owes (Silent silent) = Muted (sym (silent_is c.stream (tale_with o done queue) own.track) ∙ silent)
-    go owes (Sent quiet none) = runs_or (ended c.stream) refl owes quiet none
+    go owes (Sent unready quiet none) = runs_or (ended c.stream) refl owes unready quiet none
 nothing_stream o c done queue table (Emit (Frame from octets)) rule own = tt
 nothing_stream o c done queue table (Emit (Fetched from frame stag to octets)) rule own = tt
 nothing_stream o c done queue table (Emit (Denied fault)) rule own = tt
@@ -426,7 +430,7 @@ start_frame o c done queue from octets p own =
     let some : c.stream.sent < length (own_frame c.stream.start) = below c.stream.sent (length (own_frame c.stream.start)) (owes_some c.stream p.owes).1 in
     ((owes_start c.stream t own.emits own.sent p.owes).0, p.octets_are ∙ sym (start_frame_is c.stream t own.track), λ none. omega (arith, some, ap length p.octets_are, ap length none))
 
-frame_sized : (o : Opening) (c : Connected) (done : List (StreamAct Octets)) (queue : Receiving) (from : ℕ) (octets : Octets) → Own o c (tale_with o done queue) → EmitsStart c.stream from octets ⊎ (EmitsLast c.stream from octets ⊎ EmitsPart c.stream from octets)
+frame_sized : (o : Opening) (c : Connected) (done : List (StreamAct Octets)) (queue : Receiving) (from : ℕ) (octets : Octets) → Own o c (tale_with o done queue) → EmitsStart c.stream from octets ⊎ (EmitsLast c.stream from octets ⊎ (EmitsReady c.stream from octets ⊎ EmitsPart c.stream from octets))
     → FrameSized (story_with o done queue) (size_set done) (sent done) (Frame from octets)
 frame_sized o c done queue from octets own (inl p) = (p.from_is ∙ own.sent, inl (start_frame o c done queue from octets p own))
 frame_sized o c done queue from octets own (inr (inl p)) =
@@ -443,7 +447,18 @@ frame_sized o c done queue from octets own (inr (inl p)) =
         full = λ h. absurd (false≢true (sym h));
       }),
     )
-frame_sized o c done queue from octets own (inr (inr p)) =
+frame_sized o c done queue from octets own (inr (inr (inl p))) =
+    let small = rtr_small c.stream.numbers p.rtr in (
+      p.from_is ∙ own.sent,
+      inr (record {
+        segment = rtr_segment c.stream.numbers p.rtr;
+        known = (rtr_good c.stream.numbers p.rtr own.emits.numbers).fits (rtr_plain c.stream.numbers p.rtr);
+        is = p.octets_are ∙ (λ i. frame_octets (sending (sym own.track.begins.start i)) (own.sent i - length (own_frame (sym own.track.begins.start i))) (segment_octets (rtr_segment c.stream.numbers p.rtr)));
+        fits = omega (arith, small, own.emits.enough, own.emits.size);
+        full = λ h. absurd (true≢false (sym (rtr_last c.stream.numbers p.rtr) ∙ h));
+      }),
+    )
+frame_sized o c done queue from octets own (inr (inr (inr p))) =
     let s : StreamState = c.stream in
     let t : Tale = tale_with o done queue in
     let e = own.emits in
@@ -506,6 +521,12 @@ may_send o c done queue m own =
     let t : Tale = tale_with o done queue in
     record { running = sym own.ended ∙ m.running; open_now = open_is c.stream t own.track ∙ m.started; loud = sym (silent_is c.stream t own.track) ∙ m.loud }
 
+may_respond : (o : Opening) (c : Connected) (done : List (StreamAct Octets)) (queue : Receiving) → MaySpeak c.stream → rtr_due c.stream ≡ None → Own o c (tale_with o done queue) → MayRespond (has_ended_by done) (story_with o done queue) (sent done)
+may_respond o c done queue m unready own =
+    let t : Tale = tale_with o done queue in
+    let gone : own.emits.left ≡ [] = ready_gone c.stream t own.emits own.sent m.running m.spoken unready in
+    (may_send o c done queue m own, not_rtr c.stream t (length t.sent) own.track.begins.start (sym own.sent) own.sent (all_spoken c.stream m.spoken (runs_unbroken c.stream.ending m.running)) own.emits gone (lives c.stream t own.emits m.running).none)
+
 -- the Terminate that is due
 last_word_of : (o : Opening) (c : Connected) (done : List (StreamAct Octets)) (queue : Receiving) (from : ℕ) (octets : Octets) → EmitsLast c.stream from octets → Own o c (tale_with o done queue) → IsLastWord (story_with o done queue) (sent done) octets
 last_word_of o c done queue from octets p own = record {
@@ -522,12 +543,13 @@ shown_allowed o c done queue table (Emit (Frame from octets)) rule own = go (emi
     t : Tale
     t = tale_with o done queue
 
-    go : EmitsStart c.stream from octets ⊎ (EmitsLast c.stream from octets ⊎ EmitsPart c.stream from octets) → FrameAllowed (has_ended_by done) (story_with o done queue) (sent done) (Frame from octets)
+    go : EmitsStart c.stream from octets ⊎ (EmitsLast c.stream from octets ⊎ (EmitsReady c.stream from octets ⊎ EmitsPart c.stream from octets)) → FrameAllowed (has_ended_by done) (story_with o done queue) (sent done) (Frame from octets)
     go (inl p) = inl (start_frame o c done queue from octets p own)
     go (inr (inl p)) = inr (inl (last_word_of o c done queue from octets p own))
-    go (inr (inr p)) = inr (inr (record { running = sym own.ended ∙ p.is_loud.running; open_now = open_is c.stream t own.track ∙ p.is_loud.started; loud = sym (silent_is c.stream t own.track) ∙ p.is_loud.loud }))
-shown_allowed o c done queue table (Emit (Fetched from frame stag to octets)) rule own = may_send o c done queue (emits_as table c.stream (Fetched from frame stag to octets) rule).speaks own
-shown_allowed o c done queue table (Emit (Denied fault)) rule own = may_send o c done queue (emits_as table c.stream (Denied fault) rule).speaks own
+    go (inr (inr (inl p))) = inr (inr (may_send o c done queue p.speaks own))
+    go (inr (inr (inr p))) = inr (inr (record { running = sym own.ended ∙ p.is_loud.running; open_now = open_is c.stream t own.track ∙ p.is_loud.started; loud = sym (silent_is c.stream t own.track) ∙ p.is_loud.loud }))
+shown_allowed o c done queue table (Emit (Fetched from frame stag to octets)) rule own = (let p = emits_as table c.stream (Fetched from frame stag to octets) rule in may_respond o c done queue p.speaks p.unready own)
+shown_allowed o c done queue table (Emit (Denied fault)) rule own = (let p = emits_as table c.stream (Denied fault) rule in may_respond o c done queue p.speaks p.unready own)
 shown_allowed o c done queue table (Emit Nothing) rule own = tt
 shown_allowed o c done queue table (Post m refused) rule own = tt
 shown_allowed o c done queue table (Recv len refused) rule own = tt
@@ -781,13 +803,14 @@ end_shown o c done queue table (Frame from octets) rule own = λ over. go over (
     t : Tale
     t = tale_with o done queue
 
-    go : has_ended_by done ≡ true → EmitsStart c.stream from octets ⊎ (EmitsLast c.stream from octets ⊎ EmitsPart c.stream from octets) → IsStartDue (story_with o done queue) (sent done) octets ⊎ IsLastWord (story_with o done queue) (sent done) octets
+    go : has_ended_by done ≡ true → EmitsStart c.stream from octets ⊎ (EmitsLast c.stream from octets ⊎ (EmitsReady c.stream from octets ⊎ EmitsPart c.stream from octets)) → IsStartDue (story_with o done queue) (sent done) octets ⊎ IsLastWord (story_with o done queue) (sent done) octets
     go over (inl p) = inl (record {
       unbroken = ap is_broken own.emits.parts.ending ∙ (owes_some c.stream p.owes).0;
       is = start_frame o c done queue from octets p own;
     })
     go over (inr (inl p)) = inr (last_word_of o c done queue from octets p own)
-    go over (inr (inr p)) = absurd (false≢true (sym p.is_loud.running ∙ own.ended ∙ over))
+    go over (inr (inr (inl p))) = absurd (false≢true (sym p.speaks.running ∙ own.ended ∙ over))
+    go over (inr (inr (inr p))) = absurd (false≢true (sym p.is_loud.running ∙ own.ended ∙ over))
 end_shown o c done queue table (Fetched from frame stag to octets) rule own = sym own.ended ∙ (emits_as table c.stream (Fetched from frame stag to octets) rule).speaks.running
 end_shown o c done queue table (Denied fault) rule own = sym own.ended ∙ (emits_as table c.stream (Denied fault) rule).speaks.running
 end_shown o c done queue table Nothing rule own = tt
@@ -818,7 +841,13 @@ ended_told trace follows x n =
 
 -- an opening is refused by what was done
 number_refused : (s : EndState) (done : List (Act Octets)) (n pd : ℕ) → EndKept s done → number_refusal s.endpoint n pd ≡ number_refusal_by done n pd
-number_refused s done n pd k = λ i. cond (k.opened n i) (Some NumberTaken) (cond (nat_le stream_numbers n) (Some BadNumber) (cond (not (is_added (k.table i) pd)) (Some NoDomain) None))
+number_refused s done n pd k =
+    let taken : is_taken s.endpoint n ≡ was_opened (openings n done) = (λ i. k.opened n i || is_some (closed_none s.endpoint n k.none_closed i)) ∙ or_false (was_opened (openings n done)) in
+    λ i. cond (nat_le stream_numbers n) (Some BadNumber) (cond (taken i) (Some NumberTaken) (cond (not (is_added (k.table i) pd)) (Some NoDomain) None))
+  where
+    or_false : (b : Bool) → (b || false) ≡ b
+    or_false true = refl
+    or_false false = refl
 
 open_refused : (s : EndState) (done : List (Act Octets)) (n pd : ℕ) (role : Role) (config : Config) → EndKept s done → open_refusal s.endpoint n pd role config ≡ open_refusal_by done n pd role config
 open_refused s done n pd role config k = λ i. option_or (number_refused s done n pd k i) (request_refusal role config)

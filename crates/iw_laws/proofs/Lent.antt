@@ -48,8 +48,12 @@ module _ (s : StreamState) (t : Tale) (x y : Source) where
     segments = k.segments;
     kept = k.kept;
     before = k.before;
+    left = k.left;
+    done = k.done;
+    asking = k.asking;
     live = λ h. live k.kept k.before (k.live h);
     merges = k.merges;
+    spoken = k.spoken;
     asks = asks k.asks;
     good = k.good;
     framed = k.framed;
@@ -62,6 +66,7 @@ module _ (s : StreamState) (t : Tale) (x y : Source) where
     few = k.few;
     counts = k.counts;
     handing = k.handing;
+    reads = k.reads;
     whole = k.whole;
   }
 

@@ -18,6 +18,7 @@ pub mod FirstSent
 pub mod EarlySent
 pub mod Counts
 pub mod Merges
+pub mod Ready
 pub mod Tracks
 pub mod Reached
 pub mod Paid
@@ -52,3 +53,4 @@ pub mod Shorts
 pub mod RefusedEarly
 pub mod RefusedPools
 pub mod RefusedEnhanced
+pub mod RefusedRtr

@@ -3,13 +3,15 @@ use Rattle.std.proofs.Common.{◌≡◌, ℕ, zero, suc, ◌+◌, ◌-◌, ◌<�
 use Rattle.std.proofs.lemmas.List.{append-nil, drop_at, length-replicate}
 use Rattle.std.proofs.lemmas.Bool.Decides.{nat_tests, leb_tells}
 use Rattle.iw_octets.specs.declared.segment.Segment.{Segment}
+use Rattle.iw_octets.specs.declared.message.Message.TheVariants.{Write, Send}
 use Rattle.iw_queues.specs.declared.request.Request.{Request}
+use Rattle.iw_queues.specs.declared.request.Request.TheVariants.{Message, Read}
 use Rattle.iw_queues.specs.declared.send_queue.Part.{Part}
 use Rattle.iw_queues.specs.Request.{kind_of, payload, header_len}
 use Rattle.iw_queues.specs.Completions.{Outstanding, next_ticket, added}
 use Rattle.iw_queues.specs.Queue.{Queue, next_part, part_from, part_sent, IsBegun}
 use Rattle.iw_queues.specs.Queue as queues
-use Rattle.iw_queues.specs.Segments.{Numbers, first_numbers, numbers_after, numbers_beyond, segment_of, IsCut, AreSegments, AreSpelled}
+use Rattle.iw_queues.specs.Segments.{Numbers, first_numbers, numbers_after, numbers_beyond, segment_of, write_segment, send_segment, IsCut, AreSegments, AreSpelled}
 use Rattle.iw_queues.proofs.Sending.{part_with, goes_on_with, some_cut, some_segments}
 use Rattle.iw_reads.specs.declared.requests.Asked.{Asked}
 use Rattle.iw_reads.specs.Requests as requests
@@ -54,11 +56,21 @@ pub record GoesWith (q : Queue) (waiting : List Asked) (begun : Octets) (rest : 
   pub post : 0 < q.offset → BeginsPost q.unsent rest
   pub response : 0 < length begun → BeginsResponse waiting begun rest
 
+-- nothing of a message or a response was sent
+pub record IsUnbegun (q : Queue) (numbers : Numbers) (begun : Octets) : Type 0 where
+  pub numbers_are : numbers ≡ first_numbers
+  pub offset : q.offset ≡ 0
+  pub none : begun ≡ []
+
+never_none : {A : Type 0} (xs : List A) (x : A) → xs ++ x ∷ [] ≡ [] → ⊥
+never_none xs x e = omega (arith, ap length e, length-append xs (x ∷ []))
+
 pub record Merges (q : Queue) (numbers : Numbers) (waiting : List Asked) (begun : Octets) (posted : List (Request Octets)) (answers : List Answer) (segments : List (Segment Octets)) : Type 0 where
   pub items : List Item  -- those that were sent to their end
   pub posts : posts_in items ++ q.unsent ≡ posted
   pub are : answers_in items ≡ answers
   pub apart : (q.offset ≡ 0) ⊎ (begun ≡ [])
+  pub fresh : segments ≡ [] → IsUnbegun q numbers begun
   pub done : List (Segment Octets)  -- what carries those
   pub partial : List (Segment Octets)  -- and the one that was begun
   pub segments_are : segments ≡ done ++ partial
@@ -73,12 +85,88 @@ merges_none q unsent offset = record {
   posts = unsent;
   are = refl;
   apart = inr refl;
+  fresh = λ none. record { numbers_are = refl; offset = offset; none = refl };
   done = [];
   partial = [];
   segments_are = refl;
   spelled = refl;
   goes_on = λ rest ss g m. subst (λ n. AreMerged first_numbers n rest ss) (omega (arith, offset)) m;
 }
+
+-- ---- the RTR goes before all
+
+abbrev pub with_left : List (Request Octets) → Queue → Queue
+with_left left q = record q { unsent = left ++ q.unsent }
+
+no_cut : (room : ℕ) (segment : ℕ → Bool → Octets → Segment Octets) (offset : ℕ) (octets : Octets) (ss : List (Segment Octets)) → ss ≡ [] → IsCut room segment offset octets ss → ⊥
+no_cut room segment offset octets [] none cut = cut
+no_cut room segment offset octets (s ∷ ss) none cut = omega (arith, ap length none)
+
+no_message : (numbers : Numbers) (m : Request Octets) (offset : ℕ) (ss : List (Segment Octets)) → ss ≡ [] → AreSegments numbers m offset ss → ⊥
+no_message numbers (Message (Write stag to octets)) offset ss none cut = no_cut _ (write_segment stag to) offset (drop offset octets) ss none cut
+no_message numbers (Message (Send octets solicited invalidate)) offset ss none cut = no_cut _ (send_segment numbers.send solicited invalidate) offset (drop offset octets) ss none cut
+no_message numbers (Read request) offset ss none cut = omega (arith, ap length none, ap length cut)
+
+none_front : (xs ys : List (Segment Octets)) → xs ++ ys ≡ [] → xs ≡ []
+none_front [] ys e = refl
+none_front (x ∷ xs) ys e = absurd (omega (arith, ap length e))
+
+-- no segment, no item
+no_items : (numbers : Numbers) (items : List Item) (ss : List (Segment Octets)) → ss ≡ [] → AreMerged numbers 0 items ss → items ≡ []
+no_items numbers [] ss none h = refl
+no_items numbers (Post m ∷ items) ss none (mine, later, is, one, rest) = absurd (no_message numbers m 0 mine (none_front mine later (sym is ∙ none)) one)
+no_items numbers (Response a ∷ items) ss none (mine, later, is, one, rest) = absurd (no_cut _ (response_segment a.request) 0 a.octets mine (none_front mine later (sym is ∙ none)) one.1)
+
+none_merged : {q : Queue} {numbers : Numbers} {waiting : List Asked} {begun : Octets} {posted : List (Request Octets)} {answers : List Answer} {segments : List (Segment Octets)} → segments ≡ [] → (k : Merges q numbers waiting begun posted answers segments) → k.items ≡ []
+none_merged none k = no_items first_numbers k.items k.done (none_front k.done k.partial (sym k.segments_are ∙ none)) k.spelled
+
+-- the RTR is agreed on, where nothing was sent
+pub merges_ready : (q : Queue) (numbers : Numbers) (waiting : List Asked) (begun : Octets) (posted : List (Request Octets)) (answers : List Answer) (segments : List (Segment Octets)) (ready : List (Request Octets)) → segments ≡ []
+    → Merges q numbers waiting begun posted answers segments → Merges (with_left ready q) numbers waiting begun (ready ++ posted) answers segments
+merges_ready q numbers waiting begun posted answers segments ready nothing k =
+    let f = k.fresh nothing in
+    let none : k.items ≡ [] = none_merged nothing k in
+    record {
+      items = [];
+      posts = ap (λ z. ready ++ z) (sym (ap (λ z. posts_in z ++ q.unsent) none) ∙ k.posts);
+      are = sym (ap answers_in none) ∙ k.are;
+      apart = inl f.offset;
+      fresh = λ h. record { numbers_are = f.numbers_are; offset = f.offset; none = f.none };
+      done = [];
+      partial = [];
+      segments_are = nothing;
+      spelled = refl;
+      goes_on = λ rest ss g merged.
+          subst (λ z. AreMerged first_numbers 0 rest (z ++ ss)) (sym nothing)
+          (subst (λ n. AreMerged first_numbers n rest ss) (omega (arith, f.offset, ap length f.none)) (subst (λ z. AreMerged z (q.offset + length begun) rest ss) f.numbers_are merged));
+    }
+
+-- it is sent
+pub merges_sent : (q : Queue) (numbers : Numbers) (waiting : List Asked) (begun : Octets) (posted : List (Request Octets)) (answers : List Answer) (segments : List (Segment Octets)) (m : Request Octets) (s : Segment Octets) → segments ≡ []
+    → AreSegments first_numbers m 0 (s ∷ []) → Merges (with_left (m ∷ []) q) numbers waiting begun (m ∷ posted) answers segments
+    → Merges q (numbers_after numbers m) waiting begun (m ∷ posted) answers (segments ++ s ∷ [])
+merges_sent q numbers waiting begun posted answers segments m s nothing mine k =
+    let f = k.fresh nothing in
+    let none : k.items ≡ [] = none_merged nothing k in
+    let one : segments ++ s ∷ [] ≡ s ∷ [] = ap (λ z. z ++ s ∷ []) nothing in
+    record {
+      items = Post m ∷ [];
+      posts = sym (ap (λ z. posts_in z ++ m ∷ q.unsent) none) ∙ k.posts;
+      are = sym (ap answers_in none) ∙ k.are;
+      apart = inl f.offset;
+      fresh = λ h. absurd (never_none segments s h);
+      done = segments ++ s ∷ [];
+      partial = [];
+      segments_are = sym (append-nil (segments ++ s ∷ []));
+      spelled = (s ∷ [], [], one, mine, refl);
+      goes_on = λ rest ss g merged. (
+        s ∷ [],
+        ss,
+        ap (λ z. z ++ ss) one,
+        mine,
+        subst (λ n. AreMerged (numbers_after first_numbers m) n rest ss) (omega (arith, f.offset, ap length f.none)) (subst (λ z. AreMerged (numbers_after z m) (q.offset + length begun) rest ss) f.numbers_are merged),
+      );
+    }
 
 -- ---- a message is posted
 
@@ -93,6 +181,7 @@ merges_post q numbers waiting begun posted answers segments m started k = record
   posts = sym (append_assoc (posts_in k.items) q.unsent (m ∷ [])) ∙ ap (λ z. z ++ m ∷ []) k.posts;
   are = k.are;
   apart = k.apart;
+  fresh = λ none. let f = k.fresh none in record { numbers_are = f.numbers_are; offset = f.offset; none = f.none };
   done = k.done;
   partial = k.partial;
   segments_are = k.segments_are;
@@ -184,6 +273,7 @@ merges_part q numbers waiting posted answers segments max part low high e k = by
           ∙ ap (λ z. posts_in k.items ++ z) ((λ i. message_is i ∷ drop 1 (unsent_is i)) ∙ sym unsent_is) ∙ k.posts;
       are = answers-append k.items (Post part.message ∷ []) ∙ append-nil (answers_in k.items) ∙ k.are;
       apart = inr refl;
+      fresh = λ none. absurd (never_none segments (segment_of numbers part) none);
       done = segments ++ segment_of numbers part ∷ [];
       partial = [];
       segments_are = sym (append-nil (segments ++ segment_of numbers part ∷ []));
@@ -196,6 +286,7 @@ merges_part q numbers waiting posted answers segments max part low high e k = by
       posts = k.posts;
       are = k.are;
       apart = inr refl;
+      fresh = λ none. absurd (never_none segments (segment_of numbers part) none);
       done = k.done;
       partial = k.partial ++ segment_of numbers part ∷ [];
       segments_are = ap (λ z. z ++ segment_of numbers part ∷ []) k.segments_are ∙ append_assoc k.done k.partial (segment_of numbers part ∷ []);
@@ -256,6 +347,7 @@ merges_last q numbers oldest others begun octets posted answers segments unbegun
       posts = ap (λ z. z ++ q.unsent) (posts-append k.items (Response answer ∷ []) ∙ append-nil (posts_in k.items)) ∙ k.posts;
       are = answers-append k.items (Response answer ∷ []) ∙ ap (λ z. z ++ answer ∷ []) k.are;
       apart = inr refl;
+      fresh = λ none. absurd (never_none segments s none);
       done = segments ++ s ∷ [];
       partial = [];
       segments_are = sym (append-nil (segments ++ s ∷ []));
@@ -277,6 +369,7 @@ merges_front q numbers oldest others begun octets posted answers segments unbegu
   posts = k.posts;
   are = k.are;
   apart = inl unbegun;
+  fresh = λ none. absurd (never_none segments s none);
   done = k.done;
   partial = k.partial ++ response_segment oldest.request (length begun) false octets ∷ [];
   segments_are = ap (λ z. z ++ response_segment oldest.request (length begun) false octets ∷ []) k.segments_are ∙ append_assoc k.done k.partial (response_segment oldest.request (length begun) false octets ∷ []);

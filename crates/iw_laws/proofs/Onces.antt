@@ -26,7 +26,7 @@ use Rattle.iw_stream.specs.declared.judging.PlacedFrame.{PlacedFrame}
 use Rattle.iw_stream.specs.Frames.{Frame, EarlyRecord, placed, record_of, placed_at}
 use Rattle.iw_stream.specs.Starting.{is_open, expecting, first_place_in}
 use Rattle.iw_laws.proofs.Rooms.{heard_open}
-use Rattle.iw_stream.specs.Stream.{StreamState, Due, StartUp, LastWord, Response, NextPart, NoneDue, due, may_answer, place_of, left_out}
+use Rattle.iw_stream.specs.Stream.{StreamState, Due, StartUp, LastWord, Response, NextPart, NoneDue, due, may_answer, place_of, left_out, Ready}
 use Rattle.iw_stream.specs.Work.{scene, waiting, clashes, inbox}
 use Rattle.iw_stream.specs.Work as work
 use Rattle.iw_stream.proofs.Landings.{length_ulpdu}
@@ -89,6 +89,7 @@ emits_once s spans (shows.Frame from octets) o = go (due s)
     go StartUp = same_once s (left_frame s StartUp) spans refl refl refl refl o
     go (LastWord payload) = same_once s (left_frame s (LastWord payload)) spans refl refl refl refl o
     go (NextPart part) = same_once s (left_frame s (NextPart part)) spans refl refl refl refl o
+    go (Ready rtr) = same_once s (left_frame s (Ready rtr)) spans refl refl refl refl o
     go (Response part) = same_once s s spans refl refl refl refl o
     go NoneDue = same_once s s spans refl refl refl refl o
 emits_once s spans (shows.Fetched from frame stag to octets) o = same_once s (after_shown s (shows.Fetched from frame stag to octets)) spans refl refl refl refl o

@@ -44,10 +44,11 @@ use Rattle.std.specs.Option.{option_map, option_map_or}
 use Rattle.std.specs.Prelude.{IsSomeAnd, nat_le, min, not}
 use Rattle.std.proofs.lemmas.Option.{same_Some}
 use Rattle.std.proofs.lemmas.List.{length-set}
-use Rattle.iw_laws.specs.Turns.{Answer, Story, story_after, segment_out, read_out, is_last, is_silent, sends_segment, says_farewell, fetches_for, asked_in, next_reads, next_asked, terminate_next, was_placed, carries_response}
-use Rattle.iw_laws.specs.Merged.{Item, Response, posts_in, response_segment}
+use Rattle.iw_laws.specs.Turns.{Answer, Story, story_after, segment_out, read_out, is_last, is_silent, sends_segment, is_rtr, sends_rtr, sends_frame, says_farewell, fetches_for, asked_in, next_reads, next_asked, terminate_next, was_placed, carries_response}
+use Rattle.iw_laws.specs.Merged.{Item, Response, response_segment}
 use Rattle.iw_laws.specs.Rules.{FitsPosted}
-use Rattle.iw_laws.proofs.Merges.{Merges, BeginsResponse, asked_or, merges_post, merges_part, merges_last, merges_front}
+use Rattle.iw_laws.proofs.Merges.{Merges, BeginsResponse, asked_or, with_left, merges_ready, merges_sent, merges_post, merges_part, merges_last, merges_front}
+use Rattle.iw_laws.proofs.Ready.{ready_in, closed_ready, ready_room, ready_due, none_ready, framed_none, IsSpoken, ReadsAre, Apart, Leads, same_reads_are, unready_are, all_done}
 use Rattle.iw_octets.specs.declared.segment.Segment.{Segment}
 use Rattle.iw_octets.specs.declared.segment.Segment.TheVariants.{Tagged, Untagged}
 use Rattle.iw_octets.specs.Segment.{segment_octets}
@@ -55,6 +56,7 @@ use Rattle.iw_memory.specs.Table.{Table, region_at, denial, octets_at}
 use Rattle.iw_memory.specs.Laws.{Allows}
 use Rattle.iw_memory.proofs.Callers.{allows}
 use Rattle.iw_ranges.specs.declared.Delivery.TheVariants.{Kept, Dropped}
+use Rattle.iw_ranges.specs.Arrived.{in_order}
 use Rattle.iw_ranges.proofs.InOrder.{floor_takes}
 use Rattle.iw_fpdu.specs.declared.layout.Layout.{Layout}
 use Rattle.iw_fpdu.specs.Frame.{frame_octets}
@@ -68,14 +70,17 @@ use Rattle.iw_queues.specs.declared.completions.Done.{Done}
 use Rattle.iw_queues.specs.declared.send_queue.Part.{Part}
 use Rattle.iw_queues.specs.Request.{kind_of}
 use Rattle.iw_queues.specs.Completions.{done_from, added}
-use Rattle.iw_queues.specs.Queue.{Queue, done_in, handed_from, IsWithinLimits}
+use Rattle.iw_queues.specs.Queue.{Queue, done_in, handed_from, IsWithinLimits, IsBegun}
 use Rattle.iw_queues.specs.Laws.{kinds_in, IsHandedOut}
 use Rattle.iw_queues.proofs.Order.{keeps_order}
-use Rattle.iw_queues.specs.Segments.{Numbers, segment_of}
+use Rattle.iw_queues.specs.Segments.{Numbers, first_numbers, segment_of, AreSegments}
 use Rattle.iw_queues.proofs.Limits.{limits_posted, limits_sent, limits_handed}
 use Rattle.iw_stream.specs.declared.answer.SizeRefusal.TheVariants.{BadSize}
 use Rattle.iw_startup.specs.declared.progress.Progress.{Progress}
 use Rattle.iw_startup.specs.declared.progress.Progress.TheVariants as progresses
+use Rattle.iw_startup.specs.declared.enhanced.Rtr.{Rtr}
+use Rattle.iw_startup.specs.declared.enhanced.Rtr.TheVariants as rtrs
+use Rattle.iw_stream.specs.Rtr.{rtr_message, rtr_request, rtr_segment}
 use Rattle.iw_startup.specs.declared.side.Side.{Side}
 use Rattle.iw_startup.specs.declared.side.Side.TheVariants as sides
 use Rattle.iw_startup.specs.declared.side.Reply.{Reply}
@@ -87,15 +92,15 @@ use Rattle.iw_startup.proofs.Openings.{unanswered_not_agreed}
 use Rattle.iw_stream.specs.declared.answer.Role.{Role}
 use Rattle.iw_stream.specs.declared.answer.Role.TheVariants.{Preset, Initiator, Responder}
 use Rattle.iw_stream.specs.Frames.{payload_of}
-use Rattle.iw_stream.specs.Starting.{StartState, AtOnce, Unheard, Heard, is_open, sending, own_frame, first_place_in, is_responder, awaits_frame, heard, most_reads_in, answered_with, first_place_out}
-use Rattle.iw_stream.specs.Stream.{StreamState, Due, StartUp, Response as NextResponse, NextPart, NoneDue, LastWord, ended, size_refusal, due, emission_of, emitted, response_due, frame_of, is_read, reads_with, owes_frame, keeps_silent, place_of, left_out}
+use Rattle.iw_stream.specs.Starting.{StartState, AtOnce, Unheard, Heard, is_open, sending, own_frame, first_place_in, is_responder, awaits_frame, heard, most_reads_in, answered_with, first_place_out, rtr_in}
+use Rattle.iw_stream.specs.Stream.{StreamState, Due, StartUp, Response as NextResponse, NextPart, NoneDue, LastWord, ended, size_refusal, due, emission_of, emitted, response_due, frame_of, is_read, reads_with, owes_frame, keeps_silent, place_of, left_out, Ready, rtr_due}
 use Rattle.iw_stream.specs.declared.ending.Ending.{Ending}
 use Rattle.iw_stream.specs.declared.ending.Ending.TheVariants.{Runs, Over, Broken}
 use Rattle.iw_stream.specs.Ending.{has_ended, is_broken, last_word, with_last_word}
 use Rattle.iw_laws.specs.Turns as turns
 use Rattle.iw_stream.specs.Terminating.{is_request_of, terminate_alone, terminate_judged, terminate_turned, terminate_fetched}
-use Rattle.iw_laws.specs.Sends.{farewells, terminate_segment, count_reads}
-use Rattle.iw_laws.specs.Faithful.{count_done}
+use Rattle.iw_laws.specs.Sends.{farewells, terminate_segment, count_reads, ready_of}
+use Rattle.iw_laws.specs.Faithful.{count_done, responses_done}
 use Rattle.iw_octets.specs.declared.fault.Fault.{Fault}
 use Rattle.iw_stream.specs.Work.{inbox, waiting}
 use Rattle.iw_events.specs.declared.act.StreamAct.{StreamAct}
@@ -103,7 +108,7 @@ use Rattle.iw_events.specs.declared.act.StreamAct.TheVariants.{Recv, Post, Emit,
 use Rattle.iw_events.specs.declared.act.Shown.{Shown}
 use Rattle.iw_events.specs.declared.act.Shown.TheVariants.{Frame, Fetched, Fault as Denied, Nothing}
 use Rattle.iw_events.specs.declared.act.Seen.TheVariants as seen
-use Rattle.iw_laws.specs.Words.{Octets, deed, Opening, posted_by, finished_by, handed_by, size_after, received_by, ended_after, octets_shown, is_denied, sent_by, Sent, private_data}
+use Rattle.iw_laws.specs.Words.{Octets, deed, Opening, posted_by, finished_by, handed_by, size_after, received_by, ended_after, octets_shown, is_denied, sent_by, Sent, private_data, listed}
 use Rattle.iw_laws.specs.Rules.{StreamRule, shown_of}
 use Rattle.iw_laws.proofs.States.{Connected}
 use Rattle.iw_laws.specs.Safe.{InBuffer}
@@ -117,8 +122,8 @@ use Rattle.iw_laws.proofs.Onces.{Onces, once_after}
 use Rattle.iw_laws.proofs.Fills.{Fills, fill_after}
 use Rattle.iw_laws.proofs.Tracks.{fault_heard, told_open, OnStart, Track, by_ended, shown_stays, sound, silent_is, next_whole, next_none, next_reads_are, was_placed_is, tracking, MayAnswer, may, accepting, refusing, unanswered}
 use Rattle.iw_laws.proofs.Lists.{Each, each-push, each-first, each-last}
-use Rattle.iw_laws.proofs.Counts.{marks, length-marks, count_reads-kinds, map-take, take-all, count_done-append, read_mark, message_at, Hands, Counts, Handing, handing_of, same_handing, one_handed, same_counts, posted_counts, part_counts, handed_counts, answered_counts, part_ticket, hands, one_for, count_last, count_last-append, none_outstanding, last_of, plain_part, whole_of}
-use Rattle.iw_laws.proofs.Sending.{FitsNumbers, IsSendable, accepted, EmitsStart, EmitsLast, EmitsPart, EmitsResponse, emits_as, shown_good, response_good, shows, past_small, terminate_few, terminate_good}
+use Rattle.iw_laws.proofs.Counts.{rtr_whole, marks, length-marks, count_reads-kinds, map-take, take-all, count_done-append, read_mark, message_at, Hands, Counts, Handing, handing_of, same_handing, one_handed, same_counts, posted_counts, part_counts, handed_counts, answered_counts, part_ticket, hands, one_for, count_last, count_last-append, none_outstanding, last_of, plain_part, whole_of}
+use Rattle.iw_laws.proofs.Sending.{FitsNumbers, IsSendable, accepted, EmitsStart, EmitsLast, EmitsReady, EmitsPart, EmitsResponse, emits_as, shown_good, response_good, shows, past_small, next_small, terminate_few, terminate_good, rtr_fits, rtr_good, rtr_plain, rtr_spelled}
 use Rattle.iw_laws.proofs.Checks.{checked_buffer}
 
 -- what was sent is the start-up frame, if there is one, and the frames of these segments; or neither yet
@@ -162,8 +167,12 @@ pub record Emits (s : StreamState) (t : Tale) : Type 0 where
   pub segments : List (Segment Octets)
   pub kept : Queue  -- the queue, as it was when the stream ended
   pub before : List Kind  -- what had been handed back then
+  pub left : List (Request Octets)  -- the RTR, if it is still to be sent
+  pub done : ℕ  -- how many of the Reads that were posted were answered
+  pub asking : List Outstanding  -- those of them that are outstanding
   pub live : ended s ≡ false → IsLive s t kept before
-  pub merges : Merges kept s.numbers s.asked.unanswered t.story.begun t.posted t.story.answers segments
+  pub merges : Merges (with_left left kept) s.numbers s.asked.unanswered t.story.begun (ready_in s.start ++ t.posted) t.story.answers segments
+  pub spoken : IsSpoken (ready_in s.start) left segments
   pub asks : Asks s t.story
   pub good : Each IsSendable (segments ++ farewells t.story.farewell)
   pub framed : IsFramed s.start t.sent (segments ++ farewells t.story.farewell)
@@ -174,9 +183,10 @@ pub record Emits (s : StreamState) (t : Tale) : Type 0 where
   pub size : s.mulpdu ≡ t.size
   pub enough : 128 ≤ s.mulpdu
   pub few : s.mulpdu ≤ 64512
-  pub counts : Counts kept segments t.posted before t.story.answered s.reads
-  pub handing : Handing s.queue counts.first t.posted t.handed t.story.answered
-  pub whole : t.story.whole ≡ count_last segments
+  pub counts : Counts kept t.story.whole t.posted before done asking
+  pub handing : Handing s.queue counts.first t.posted t.handed done
+  pub reads : ReadsAre (ready_in s.start) left s.reads asking t.story.answered done
+  pub whole : count_last segments + length left ≡ length (ready_in s.start) + t.story.whole
 
 -- all segments that went out
 abbrev pub out_of : (s : StreamState) (t : Tale) → Emits s t → List (Segment Octets)
@@ -197,7 +207,7 @@ IsStartOf o (Heard u) = StartsAs o u
 
 -- the Reads that are finished were answered
 pub record Doing (t : Tale) : Type 0 where
-  pub answered : count_done t.finished ≤ t.story.answered
+  pub answered : responses_done (ready_of t.story) (count_done t.finished) ≤ t.story.answered
   pub among : count_done t.finished ≤ count_done t.handed
 
 -- the acts tell the number of the peer's first octet, and whether octets were delivered
@@ -234,6 +244,7 @@ left_heard s (Frame from octets) = go (due s)
     go (LastWord payload) = record { receiving = refl; start = refl; first = refl; answered = refl }
     go (NextResponse part) = record { receiving = refl; start = refl; first = refl; answered = refl }
     go (NextPart part) = record { receiving = refl; start = refl; first = refl; answered = refl }
+    go (Ready rtr) = record { receiving = refl; start = refl; first = refl; answered = refl }
     go NoneDue = record { receiving = refl; start = refl; first = refl; answered = refl }
 left_heard s (Fetched from frame stag to octets) = record { receiving = refl; start = refl; first = refl; answered = refl }
 left_heard s (Denied fault) = record { receiving = refl; start = refl; first = refl; answered = refl }
@@ -314,10 +325,11 @@ owes_some s owes = go (is_broken s.ending) refl owes
 shown_ended : (table : Table) (s : StreamState) (shown : Shown Octets) → shown ≡ shown_of table (emission_of table s) (emitted table s) → ended (after_shown s shown) ≡ cond (is_denied shown) true (ended s)
 shown_ended table s (Frame from octets) rule = go (emits_as table s (Frame from octets) rule)
   where
-    go : EmitsStart s from octets ⊎ (EmitsLast s from octets ⊎ EmitsPart s from octets) → ended (left_frame s (due s)) ≡ ended s
+    go : EmitsStart s from octets ⊎ (EmitsLast s from octets ⊎ (EmitsReady s from octets ⊎ EmitsPart s from octets)) → ended (left_frame s (due s)) ≡ ended s
     go (inl p) = ap (λ d. ended (left_frame s d)) p.next
     go (inr (inl p)) = ap (λ d. ended (left_frame s d)) p.next ∙ sym (word_over s.ending p.payload p.is_due)
-    go (inr (inr p)) = ap (λ d. ended (left_frame s d)) p.next
+    go (inr (inr (inl p))) = ap (λ d. ended (left_frame s d)) p.next
+    go (inr (inr (inr p))) = ap (λ d. ended (left_frame s d)) p.next
 shown_ended table s (Fetched from frame stag to octets) rule = refl
 shown_ended table s (Denied fault) rule = by_ended s (terminate_fetched s.asked fault)
 shown_ended table s Nothing rule = refl
@@ -325,10 +337,11 @@ shown_ended table s Nothing rule = refl
 emission_sent : (table : Table) (s : StreamState) (shown : Shown Octets) → shown ≡ shown_of table (emission_of table s) (emitted table s) → (after_shown s shown).sent ≡ s.sent + length (octets_shown shown)
 emission_sent table s (Frame from octets) rule = frame (emits_as table s (Frame from octets) rule)
   where
-    frame : EmitsStart s from octets ⊎ (EmitsLast s from octets ⊎ EmitsPart s from octets) → (left_frame s (due s)).sent ≡ s.sent + length octets
+    frame : EmitsStart s from octets ⊎ (EmitsLast s from octets ⊎ (EmitsReady s from octets ⊎ EmitsPart s from octets)) → (left_frame s (due s)).sent ≡ s.sent + length octets
     frame (inl p) = ap (λ d. (left_frame s d).sent) p.next ∙ ap (λ z. s.sent + length z) (sym p.octets_are)
     frame (inr (inl p)) = ap (λ d. (left_frame s d).sent) p.next ∙ ap (λ z. s.sent + length z) (sym p.octets_are)
-    frame (inr (inr p)) = ap (λ d. (left_frame s d).sent) p.next ∙ ap (λ z. s.sent + length z) (sym p.octets_are)
+    frame (inr (inr (inl p))) = ap (λ d. (left_frame s d).sent) p.next ∙ ap (λ z. s.sent + length z) (sym p.octets_are)
+    frame (inr (inr (inr p))) = ap (λ d. (left_frame s d).sent) p.next ∙ ap (λ z. s.sent + length z) (sym p.octets_are)
 emission_sent table s (Fetched from frame stag to octets) rule = refl
 emission_sent table s (Denied fault) rule = omega arith
 emission_sent table s Nothing rule = omega arith
@@ -450,10 +463,10 @@ same_merges {q} {q'} {n} {n'} {w} {w'} {b} {b'} {ms} {ms'} {an} {an'} {us} e f g
 
 -- what is kept of messages that were sent is nothing to those that are not
 sent_merges : {q : Queue} {sent : completions.Outstanding} {n : Numbers} {w : List Asked} {b : Octets} {ms : List (Request Octets)} {an : List Answer} {us : List (Segment Octets)} → Merges q n w b ms an us → Merges (record q { sent = sent }) n w b ms an us
-sent_merges k = record { items = k.items; posts = k.posts; are = k.are; apart = k.apart; done = k.done; partial = k.partial; segments_are = k.segments_are; spelled = k.spelled; goes_on = λ rest ss g m. k.goes_on rest ss (record { post = g.post; response = g.response }) m }
+sent_merges k = record { items = k.items; posts = k.posts; are = k.are; apart = k.apart; fresh = λ none. let f = k.fresh none in record { numbers_are = f.numbers_are; offset = f.offset; none = f.none }; done = k.done; partial = k.partial; segments_are = k.segments_are; spelled = k.spelled; goes_on = λ rest ss g m. k.goes_on rest ss (record { post = g.post; response = g.response }) m }
 
--- segments of responses count for nothing
-more_counts : {q : Queue} {us us' : List (Segment Octets)} {ms : List (Request Octets)} {ks : List Kind} {a : ℕ} {rs : List Outstanding} → count_last us ≡ count_last us' → Counts q us ms ks a rs → Counts q us' ms ks a rs
+-- as many messages were sent to their end
+abbrev more_counts : {q : Queue} {us us' : ℕ} {ms : List (Request Octets)} {ks : List Kind} {a : ℕ} {rs : List Outstanding} → us ≡ us' → Counts q us ms ks a rs → Counts q us' ms ks a rs
 more_counts e n = record { order = n.order; first = n.first; split = n.split; lasts = sym e ∙ n.lasts; counted = n.counted; oldest = n.oldest; marked = n.marked; some = n.some; done = n.done; tickets = n.tickets }
 
 -- nothing of the queue or of Reads changes, and nothing is posted or emitted
@@ -472,16 +485,20 @@ record StaysQuiet (s s' : StreamState) (t : Tale) (act : StreamAct Octets) : Typ
   pub farewell : (story_after t.story act).farewell ≡ t.story.farewell
 
 -- the segments stay, with what is said of what was sent of them
-stays : (s s' : StreamState) (t : Tale) (act : StreamAct Octets) → StaysQuiet s s' t act → length s.reads ≤ most_reads_in s'.start → (e : Emits s t) → IsFramed s'.start (t.sent ++ sent_by act) (out_of s t e) → Parts s' (story_after t.story act) e.segments → Emits s' (tale_after t act)
-stays s s' t act q most e framed parts =
+stays : (s s' : StreamState) (t : Tale) (act : StreamAct Octets) → StaysQuiet s s' t act → ready_in s'.start ≡ ready_in s.start → length s.reads ≤ most_reads_in s'.start → (e : Emits s t) → IsFramed s'.start (t.sent ++ sent_by act) (out_of s t e) → Parts s' (story_after t.story act) e.segments → Emits s' (tale_after t act)
+stays s s' t act q ready most e framed parts =
     let same : t.posted ++ posted_by act ≡ t.posted = ap (λ z. t.posted ++ z) q.posted ∙ append-nil t.posted in
     let handed : t.handed ++ handed_by act ≡ t.handed = ap (λ z. t.handed ++ z) q.handed ∙ append-nil t.handed in
     record {
       segments = e.segments;
       kept = e.kept;
       before = e.before;
+      left = e.left;
+      done = e.done;
+      asking = e.asking;
       live = λ h. let l = e.live (q.running h) in record { queue = q.queue ∙ l.queue; handed = handed ∙ l.handed };
-      merges = same_merges refl q.numbers (ap (λ (z : Requested). z.unanswered) q.asked) q.said.begun same q.said.answers e.merges;
+      merges = same_merges refl q.numbers (ap (λ (z : Requested). z.unanswered) q.asked) q.said.begun (λ i. ready i ++ same i) q.said.answers e.merges;
+      spoken = subst (λ z. IsSpoken z e.left e.segments) (sym ready) e.spoken;
       asks = same_asks s s' t.story (story_after t.story act) q.reads q.asked q.said most e.asks;
       good = subst (λ z. Each IsSendable (e.segments ++ farewells z)) (sym q.farewell) e.good;
       framed = subst (λ z. IsFramed s'.start (t.sent ++ sent_by act) (e.segments ++ farewells z)) (sym q.farewell) framed;
@@ -492,9 +509,10 @@ stays s s' t act q most e framed parts =
       size = q.mulpdu ∙ e.size ∙ sym q.size;
       enough = omega (arith, q.mulpdu, e.enough);
       few = omega (arith, q.mulpdu, e.few);
-      counts = same_counts refl same refl q.said.answered q.reads e.counts;
-      handing = same_handing q.queue same handed q.said.answered e.handing;
-      whole = q.said.whole ∙ e.whole;
+      counts = more_counts (sym q.said.whole) (same_counts refl same refl refl refl e.counts);
+      handing = same_handing q.queue same handed refl e.handing;
+      reads = same_reads_are ready q.reads q.said.answered e.reads;
+      whole = e.whole ∙ (λ i. length (sym ready i) + sym q.said.whole i);
     }
 
 -- nothing is said of the end
@@ -554,7 +572,7 @@ nothing_more s s' t act start sent e = subst (λ z. IsFramed s'.start z (out_of 
 
 quiet : (s s' : StreamState) (t : Tale) (act : StreamAct Octets) → s'.start ≡ s.start → StaysQuiet s s' t act → StaysApart s s' t.story (story_after t.story act) → StillSilent s s' → Emits s t → Emits s' (tale_after t act)
 quiet s s' t act start q apart silent e =
-    stays s s' t act q (same_most s s' t start e) e (nothing_more s s' t act start q.sent e) (same_parts s s' t.story (story_after t.story act) e.segments apart e.parts (λ h. ap is_open (sym start) ∙ h) silent)
+    stays s s' t act q (ap ready_in start) (same_most s s' t start e) e (nothing_more s s' t act start q.sent e) (same_parts s s' t.story (story_after t.story act) e.segments apart e.parts (λ h. ap is_open (sym start) ∙ h) silent)
 
 bare : (xs : Octets) (l : Layout) (us : List (Segment Octets)) → us ≡ [] → xs ++ sequence l 0 (map segment_octets us) ≡ xs
 unfolding sequence
@@ -563,7 +581,42 @@ bare xs l us none = ap (λ z. xs ++ sequence l 0 (map segment_octets z)) none �
 -- the start-up goes on, at a stream that was not open: this end's frame stays, or there was none
 restarts : (s s' : StreamState) (t : Tale) (act : StreamAct Octets) → is_open s.start ≡ false → StaysQuiet s s' t act → (own_frame s'.start ≡ own_frame s.start) ⊎ (own_frame s.start ≡ []) → (e : Emits s t) → Parts s' (story_after t.story act) e.segments
     → Emits s' (tale_after t act)
-restarts s s' t act closed q own e parts = stays s s' t act q none_asked e (go (e.parts.shut closed).none (ap (λ z. t.sent ++ z) q.sent ∙ append-nil t.sent) e.framed own) parts
+restarts s s' t act closed q own e parts =
+    let same : t.posted ++ posted_by act ≡ t.posted = ap (λ z. t.posted ++ z) q.posted ∙ append-nil t.posted in
+    let handed : t.handed ++ handed_by act ≡ t.handed = ap (λ z. t.handed ++ z) q.handed ∙ append-nil t.handed in
+    let ready : List (Request Octets) = ready_in s'.start in
+    let unready : ready_in s.start ≡ [] = closed_ready s.start closed in
+    let nothing : e.segments ≡ [] = first_none e.segments (farewells t.story.farewell) (e.parts.shut closed).none in
+    let gone : e.left ≡ [] = elim e.spoken [ inl none ↦ none | inr all ↦ all.1 ∙ unready ] in
+    let unsent : t.story.whole ≡ 0 = omega (arith, e.whole, ap count_last nothing, ap length gone, ap length unready) in
+    let reads = unready_are unready gone e.reads in
+    record {
+      segments = e.segments;
+      kept = e.kept;
+      before = e.before;
+      left = ready;
+      done = e.done;
+      asking = e.asking;
+      live = λ h. let l = e.live (q.running h) in record { queue = q.queue ∙ l.queue; handed = handed ∙ l.handed };
+      merges = same_merges refl q.numbers (ap (λ (z : Requested). z.unanswered) q.asked) q.said.begun (ap (λ z. ready ++ z) same) q.said.answers
+          (merges_ready e.kept s.numbers s.asked.unanswered t.story.begun t.posted t.story.answers e.segments ready nothing
+          (same_merges (λ i. with_left (sym gone i) e.kept) refl refl refl (λ i. sym unready i ++ t.posted) refl e.merges));
+      spoken = inr (nothing, refl);
+      asks = same_asks s s' t.story (story_after t.story act) q.reads q.asked q.said (omega (arith, ap length reads.0, none_outstanding unsent e.counts)) e.asks;
+      good = subst (λ z. Each IsSendable (e.segments ++ farewells z)) (sym q.farewell) e.good;
+      framed = subst (λ z. IsFramed s'.start (t.sent ++ sent_by act) (e.segments ++ farewells z)) (sym q.farewell) (go (e.parts.shut closed).none (ap (λ z. t.sent ++ z) q.sent ∙ append-nil t.sent) e.framed own);
+      parts = parts;
+      limits = e.limits;
+      fit = subst (Each FitsPosted) (sym same) e.fit;
+      numbers = subst FitsNumbers (sym q.numbers) e.numbers;
+      size = q.mulpdu ∙ e.size ∙ sym q.size;
+      enough = omega (arith, q.mulpdu, e.enough);
+      few = omega (arith, q.mulpdu, e.few);
+      counts = more_counts (sym q.said.whole) (same_counts refl same refl refl refl e.counts);
+      handing = same_handing q.queue same handed refl e.handing;
+      reads = Apart (q.reads ∙ reads.0) (omega (arith, q.said.answered, reads.1));
+      whole = omega (arith, ap count_last nothing, unsent, q.said.whole);
+    }
   where
     us : List (Segment Octets)
     us = out_of s t e
@@ -571,9 +624,6 @@ restarts s s' t act closed q own e parts = stays s s' t act q none_asked e (go (
     first_none : (xs ys : List (Segment Octets)) → xs ++ ys ≡ [] → xs ≡ []
     first_none [] ys h = refl
     first_none (x ∷ xs) ys h = cc
-
-    none_asked : length s.reads ≤ most_reads_in s'.start
-    none_asked = omega (arith, none_outstanding (first_none e.segments (farewells t.story.farewell) (e.parts.shut closed).none) e.counts)
 
     go : {sent' : Octets} → us ≡ [] → sent' ≡ t.sent → IsFramed s.start t.sent us → (own_frame s'.start ≡ own_frame s.start) ⊎ (own_frame s.start ≡ []) → IsFramed s'.start sent' us
     go none unsent (Unspoken b c) own = Unspoken (unsent ∙ b) c
@@ -602,25 +652,39 @@ loud_parts s s' t t' us vs started loud a p = record {
 
 -- ---- a stream that has not ended
 
-pub record Live (s : StreamState) (t : Tale) (us : List (Segment Octets)) : Type 0 where
-  pub merges : Merges s.queue s.numbers s.asked.unanswered t.story.begun t.posted t.story.answers us
-  pub counts : Counts s.queue us t.posted t.handed t.story.answered s.reads
+pub record Live (s : StreamState) (t : Tale) (e : Emits s t) : Type 0 where
+  pub merges : Merges (with_left e.left s.queue) s.numbers s.asked.unanswered t.story.begun (ready_in s.start ++ t.posted) t.story.answers e.segments
+  pub counts : Counts s.queue t.story.whole t.posted t.handed e.done e.asking
   pub limits : IsWithinLimits s.queue
   pub fit : Each FitsPosted s.queue.unsent
   pub none : farewells t.story.farewell ≡ []
-  pub good : Each IsSendable us
+  pub good : Each IsSendable e.segments
 
-pub lives : (s : StreamState) (t : Tale) (e : Emits s t) → ended s ≡ false → Live s t e.segments
+pub lives : (s : StreamState) (t : Tale) (e : Emits s t) → ended s ≡ false → Live s t e
 lives s t e running =
     let l = e.live running in
     record {
-      merges = same_merges l.queue refl refl refl refl refl e.merges;
+      merges = same_merges (ap (with_left e.left) l.queue) refl refl refl refl refl e.merges;
       counts = same_counts l.queue refl l.handed refl refl e.counts;
       limits = subst IsWithinLimits (sym l.queue) e.limits;
-      fit = subst (λ (z : Queue). Each FitsPosted z.unsent) (sym l.queue) (each-last FitsPosted (posts_in e.merges.items) e.kept.unsent (subst (Each FitsPosted) (sym e.merges.posts) e.fit));
+      fit = subst (λ (z : Queue). Each FitsPosted z.unsent) (sym l.queue) (each-last FitsPosted e.counts.first e.kept.unsent (subst (Each FitsPosted) e.counts.split e.fit));
       none = elim e.parts.once [ inl none ↦ ap farewells none | inr o ↦ absurd (true≢false (sym o.over ∙ running)) ];
       good = each-first IsSendable e.segments (farewells t.story.farewell) e.good;
     }
+
+-- nothing is begun of a message where the RTR is left
+unbegun_any : (ms : List (Request Octets)) (offset : ℕ) → offset ≡ 0 → IsBegun ms offset
+unbegun_any [] offset none = none
+unbegun_any (m ∷ ms) offset none = λ some. absurd (omega (arith, some, none))
+
+rtr_begun : {s : StreamState} {t : Tale} (e : Emits s t) (q : Queue) → Merges (with_left e.left q) s.numbers s.asked.unanswered t.story.begun (ready_in s.start ++ t.posted) t.story.answers e.segments → IsBegun q.unsent q.offset → IsBegun (e.left ++ q.unsent) q.offset
+rtr_begun e q k begun = elim e.spoken [
+  | inl gone ↦ subst (λ z. IsBegun (z ++ q.unsent) q.offset) (sym gone) begun
+  | inr all ↦ unbegun_any (e.left ++ q.unsent) q.offset (k.fresh all.0).offset
+]
+
+pub all_begun : {s : StreamState} {t : Tale} (e : Emits s t) → IsBegun (e.left ++ e.kept.unsent) e.kept.offset
+all_begun e = rtr_begun e e.kept e.merges e.limits.begun
 
 -- where no Terminate went out, the segments are all
 pub alone_out : (us fs : List (Segment Octets)) → fs ≡ [] → us ++ fs ≡ us
@@ -631,13 +695,18 @@ posts : (table : Table) (s : StreamState) (t : Tale) (m : Request Octets) → To
 posts table s t m rule e =
     let ok = accepted s m rule.1 in
     let l = lives s t e ok.running in
-    let counts = posted_counts s.queue e.segments t.posted t.handed t.story.answered s.reads m l.counts in
+    let counts = posted_counts s.queue t.story.whole t.posted t.handed e.done e.asking m l.counts in
     record {
       segments = e.segments;
       kept = (after_act s (Post m None)).queue;
       before = t.handed ++ [];
+      left = e.left;
+      done = e.done;
+      asking = e.asking;
       live = λ h. record { queue = refl; handed = refl };
-      merges = merges_post s.queue s.numbers s.asked.unanswered t.story.begun t.posted t.story.answers e.segments m l.limits.begun l.merges;
+      merges = same_merges (λ i. record s.queue { unsent = sym (append_assoc e.left s.queue.unsent (m ∷ [])) i }) refl refl refl (sym (append_assoc (ready_in s.start) t.posted (m ∷ []))) refl
+          (merges_post (with_left e.left s.queue) s.numbers s.asked.unanswered t.story.begun (ready_in s.start ++ t.posted) t.story.answers e.segments m (rtr_begun e s.queue l.merges l.limits.begun) l.merges);
+      spoken = e.spoken;
       asks = same_asks s (after_act s (Post m None)) t.story t.story refl refl (stays_said t.story) e.asks.few e.asks;
       good = e.good;
       framed = subst (λ z. IsFramed s.start z (out_of s t e)) (sym (append-nil t.sent)) e.framed;
@@ -650,6 +719,7 @@ posts table s t m rule e =
       few = e.few;
       counts = counts;
       handing = handing_of counts;
+      reads = e.reads;
       whole = e.whole;
     }
 
@@ -697,6 +767,45 @@ before_start s t e sent owes = go e.framed
         let less : s.sent < length (own_frame s.start) = below s.sent (length (own_frame s.start)) (owes_some s owes).1 in
         absurd (omega (arith, less, sent, ap length b, length-append (own_frame s.start) (sequence (sending s.start) 0 (map segment_octets us))))
 
+-- where as many octets went out as the start-up frame has, no frame did
+nothing_out : (s : StreamState) (t : Tale) (e : Emits s t) → s.sent ≡ length t.sent → nat_lt s.sent (first_place_out s.start) ≡ false → s.sent ≡ first_place_out s.start → out_of s t e ≡ []
+nothing_out s t e sent spoken place =
+    let frames : Octets = sequence (sending s.start) 0 (map segment_octets (out_of s t e)) in
+    framed_none (sending s.start) (out_of s t e) e.good (no_octets frames (omega (arith, sent, place, ap length (past_start s t e sent spoken), length-append (own_frame s.start) frames)))
+  where
+    no_octets : (xs : Octets) → length xs ≡ 0 → xs ≡ []
+    no_octets [] h = refl
+    no_octets (x ∷ xs) h = absurd (omega (arith, h))
+
+-- where no RTR is due, none is left
+pub ready_gone : (s : StreamState) (t : Tale) (e : Emits s t) → s.sent ≡ length t.sent → ended s ≡ false → owes_frame s ≡ false → rtr_due s ≡ None → e.left ≡ []
+ready_gone s t e sent running owes unready = elim e.spoken [
+  | inl gone ↦ gone
+  | inr all ↦
+      let l = lives s t e running in
+      let out : out_of s t e ≡ [] = alone_out e.segments (farewells t.story.farewell) l.none ∙ all.0 in
+      let framed = past_start s t e sent (all_spoken s owes (runs_unbroken s.ending running)) in
+      let place : s.sent ≡ first_place_out s.start = sent ∙ ap length (framed ∙ ap (λ z. own_frame s.start ++ sequence (sending s.start) 0 (map segment_octets z)) out ∙ ap (λ z. own_frame s.start ++ z) (nothing_framed (sending s.start)) ∙ append-nil (own_frame s.start)) in
+      all.1 ∙ none_ready s unready place
+]
+
+-- a frame that goes out behind the RTR is not taken for it
+pub not_rtr : (s : StreamState) (t : Tale) (from : ℕ) → t.story.start ≡ s.start → from ≡ s.sent → s.sent ≡ length t.sent → nat_lt s.sent (first_place_out s.start) ≡ false → (e : Emits s t) → e.left ≡ [] → farewells t.story.farewell ≡ [] → is_rtr t.story from ≡ false
+not_rtr s t from start from_is sent spoken e gone none = (λ i. is_some (rtr_in (start i)) && nat_eq (from_is i) (first_place_out (start i))) ∙ go (rtr_in s.start) refl (nat_eq s.sent (first_place_out s.start)) refl
+  where
+    first_none : (xs ys : List (Segment Octets)) → xs ++ ys ≡ [] → xs ≡ []
+    first_none [] ys h = refl
+    first_none (x ∷ xs) ys h = cc
+
+    go : (o : Option Rtr) → rtr_in s.start ≡ o → (b : Bool) → nat_eq s.sent (first_place_out s.start) ≡ b → (is_some o && b) ≡ false
+    go None is b h = refl
+    go (Some rtr) is false h = refl
+    go (Some rtr) is true h =
+        let place : s.sent ≡ first_place_out s.start = grind (arith, nat_tests) in
+        let nothing : e.segments ≡ [] = first_none e.segments (farewells t.story.farewell) (nothing_out s t e sent spoken place) in
+        let one : length (ready_in s.start) ≡ 1 = ap (λ o. length (listed (option_map rtr_message o))) is in
+        absurd (omega (arith, e.whole, ap count_last nothing, ap length gone, one))
+
 -- ---- frames that go out
 
 -- a frame that goes out past others is read again as the segment that it carries
@@ -734,23 +843,21 @@ reads_again s t from octets segment start from_is spoken octets_are good sent e 
           ∙ read_segment-spelled segment (good.fits plain);
     }
 
--- the Read that a part asks for
-asks_read : (numbers : Numbers) (part : Part (Request Octets)) (reads : List Outstanding) (ticket : ℕ) → FitsPosted part.message → part.ticket ≡ ticket
-    → option_map_or (asked_for reads ticket) (read_out (segment_of numbers part)) reads ≡ reads_with reads part.ticket part.message
-asks_read numbers part reads ticket fits same = go part.message fits
+-- the Read that a segment of a message asks for
+asks_read : (numbers : Numbers) (m : Request Octets) (offset : ℕ) (last : Bool) (octets : Octets) (reads : List Outstanding) (ticket : Option ℕ) → FitsPosted m
+    → option_map_or (asked_for reads ticket) (read_out (segment_with numbers m offset last octets)) reads ≡ reads_with reads ticket m
+asks_read numbers m offset last octets reads ticket fits = go m fits
   where
     again : (request : ReadRequest) → FitsRequest request → read_request (request_octets request) ≡ Some (request, [])
     again request fits = ap read_request (sym (append-nil (request_octets request))) ∙ read_request-spelled request [] fits
 
-    go : (m : Request Octets) → FitsPosted m → option_map_or (asked_for reads ticket) (read_out (segment_with numbers m part.offset part.last (take part.n (drop part.offset (payload part.message))))) reads ≡ reads_with reads part.ticket m
+    go : (m : Request Octets) → FitsPosted m → option_map_or (asked_for reads ticket) (read_out (segment_with numbers m offset last octets)) reads ≡ reads_with reads ticket m
     go (Posted (Write stag to octets)) fits = refl
     go (Posted (Send octets solicited invalidate)) fits = refl
-    go (Read request) fits =
-        ap (λ o. option_map_or (asked_for reads ticket) (option_map (λ (read : ReadRequest × Octets). read.0) o) reads) (again request fits)
-        ∙ ap (λ n. asked_for reads n request) (sym same)
+    go (Read request) fits = ap (λ o. option_map_or (asked_for reads ticket) (option_map (λ (read : ReadRequest × Octets). read.0) o) reads) (again request fits)
 
 -- fewer than may be are outstanding where a Read goes out
-still_few : (most : ℕ) (reads : List Outstanding) (ticket : ℕ) (m : Request Octets) → length reads ≤ most → (is_read m && nat_le most (length reads)) ≡ false → length (reads_with reads ticket m) ≤ most
+still_few : (most : ℕ) (reads : List Outstanding) (ticket : Option ℕ) (m : Request Octets) → length reads ≤ most → (is_read m && nat_le most (length reads)) ≡ false → length (reads_with reads ticket m) ≤ most
 still_few most reads ticket (Posted m) few room = few
 still_few most reads ticket (Read request) few room =
     let less : length reads < most = grind (arith, nat_tests) in
@@ -787,27 +894,36 @@ sends_part s t from octets p start sent e =
     let r = reads_again s t from octets segment start p.from_is spoken p.octets_are good sent e l.none in
     let fits : FitsPosted part.message = part_fits s part loud.part_is l.fit in
     let none : t.story.begun ≡ [] = unbegun s t e l.merges.apart loud.quiet in
-    let ticket : part.ticket ≡ t.story.whole % 2 ^ 64 = part_ticket s.queue s.mulpdu part e.segments t.posted t.handed t.story.answered s.reads loud.part_is l.counts ∙ ap (λ n. n % 2 ^ 64) (sym (e.whole ∙ l.counts.lasts)) in
+    let gone : e.left ≡ [] = ready_gone s t e sent loud.running loud.spoken loud.unready in
+    let ticket : part.ticket ≡ t.story.whole % 2 ^ 64 = part_ticket s.queue s.mulpdu part t.story.whole t.posted t.handed e.done e.asking loud.part_is l.counts ∙ ap (λ n. n % 2 ^ 64) (sym l.counts.lasts) in
     let quiet : last_word t.story.ending ≡ None = ap last_word e.parts.ending ∙ runs_quiet s.ending loud.running in
     let story : story_after t.story (Emit (Frame from octets)) ≡ sends_segment t.story segment =
-    (λ i. cond (r.past i) t.story (option_map_or (says_farewell t.story) (quiet i) (option_map_or (sends_segment t.story) (r.told (plain_part s.numbers part) i) t.story))) in
-    let reads : (sends_segment t.story segment).reads ≡ reads_with s.reads part.ticket part.message =
-    ap (λ z. option_map_or (asked_for z (t.story.whole % 2 ^ 64)) (read_out segment) z) e.asks.reads ∙ asks_read s.numbers part s.reads (t.story.whole % 2 ^ 64) fits ticket in
-    let counts = part_counts s.queue e.segments t.posted t.handed t.story.answered s.reads s.numbers s.mulpdu part loud.part_is l.counts in
+    (λ i. cond (r.past i) t.story (option_map_or (says_farewell t.story) (quiet i) (option_map_or (sends_frame t.story (not_rtr s t from start p.from_is sent spoken e gone l.none i)) (r.told (plain_part s.numbers part) i) t.story))) in
+    let reads : (sends_segment t.story segment).reads ≡ reads_with s.reads (Some part.ticket) part.message =
+    ap (λ z. option_map_or (asked_for z (Some (t.story.whole % 2 ^ 64))) (read_out segment) z) e.asks.reads ∙ asks_read s.numbers part.message part.offset part.last (take part.n (drop part.offset (payload part.message))) s.reads (Some (t.story.whole % 2 ^ 64)) fits
+    ∙ ap (λ n. reads_with s.reads (Some n) part.message) (sym ticket) in
+    let sent_counts = part_counts s.queue t.story.whole t.posted t.handed e.done e.asking s.mulpdu part loud.part_is l.counts in
+    let whole : (sends_segment t.story segment).whole ≡ t.story.whole + one_for part.last = one_whole (is_last segment) part.last (last_of s.numbers s.queue s.mulpdu part loud.part_is) t.story.whole in
+    let counts = more_counts (sym whole) sent_counts in
     let out : (e.segments ++ segment ∷ []) ++ farewells t.story.farewell ≡ e.segments ++ segment ∷ [] = alone_out (e.segments ++ segment ∷ []) (farewells t.story.farewell) l.none in
     subst (λ z. Emits s' (record (tale_after t (Emit (Frame from octets))) { story = z })) (sym story)
     (record {
       segments = e.segments ++ segment ∷ [];
       kept = s'.queue;
       before = t.handed ++ [];
+      left = [];
+      done = e.done;
+      asking = reads_with e.asking (Some part.ticket) part.message;
       live = λ h. record { queue = refl; handed = refl };
-      merges = same_merges refl refl refl none (append-nil t.posted) refl (merges_part s.queue s.numbers s.asked.unanswered t.posted t.story.answers e.segments s.mulpdu part e.enough e.few loud.part_is (same_merges refl refl refl (sym none) refl refl l.merges));
+      merges = same_merges refl refl refl none (ap (λ z. ready_in s.start ++ z) (append-nil t.posted)) refl
+          (merges_part s.queue s.numbers s.asked.unanswered (ready_in s.start ++ t.posted) t.story.answers e.segments s.mulpdu part e.enough e.few loud.part_is (same_merges (λ i. with_left (sym gone i) s.queue) refl refl (sym none) refl refl l.merges));
+      spoken = inl refl;
       asks = record {
         reads = reads;
         asked = e.asks.asked;
         fetched = e.asks.fetched;
         begun = e.asks.begun;
-        few = still_few (most_reads_in s.start) s.reads part.ticket part.message e.asks.few loud.room;
+        few = still_few (most_reads_in s.start) s.reads (Some part.ticket) part.message e.asks.few loud.room;
       };
       good = subst (Each IsSendable) (sym out) (each-push IsSendable e.segments segment l.good good);
       framed = subst (IsFramed s.start (t.sent ++ octets)) (sym out) (Spoken r.framed);
@@ -820,15 +936,117 @@ sends_part s t from octets p start sent e =
       few = e.few;
       counts = counts;
       handing = handing_of counts;
-      whole = one_whole (is_last segment) part.last (last_of s.numbers s.queue s.mulpdu part loud.part_is) e.whole
-          ∙ sym (count_last-append e.segments (segment ∷ []) ∙ omega (arith, ap one_for (whole_of s.numbers s.queue s.mulpdu part loud.part_is)));
+      reads = asks_more gone part.ticket part.message e.reads;
+      whole = omega (arith, count_last-append e.segments (segment ∷ []), ap one_for (whole_of s.numbers s.queue s.mulpdu part loud.part_is), whole, e.whole, ap length gone);
     })
   where
-    one_whole : (b last : Bool) → b ≡ last → {w c : ℕ} → w ≡ c → cond b (w + 1) w ≡ c + one_for last
-    one_whole true true is e = omega (arith, e)
-    one_whole false false is e = omega (arith, e)
-    one_whole true false is e = absurd (true≢false is)
-    one_whole false true is e = absurd (false≢true is)
+    one_whole : (b last : Bool) → b ≡ last → (w : ℕ) → cond b (w + 1) w ≡ w + one_for last
+    one_whole true true is w = refl
+    one_whole false false is w = omega arith
+    one_whole true false is w = absurd (true≢false is)
+    one_whole false true is w = absurd (false≢true is)
+
+    asks_more : {ready left : List (Request Octets)} {reads asking : List Outstanding} {answered done : ℕ} → left ≡ [] → (ticket : ℕ) (m : Request Octets) → ReadsAre ready left reads asking answered done
+        → ReadsAre ready [] (reads_with reads (Some ticket) m) (reads_with asking (Some ticket) m) answered done
+    asks_more gone ticket (Posted m) (Apart same sum) = Apart same (omega (arith, sum, ap count_reads gone))
+    asks_more gone ticket (Posted m) (Leads rtr none is answered done left one) = Leads rtr none is answered done refl one
+    asks_more gone ticket (Read request) (Apart same sum) = Apart (ap (λ z. asked_for z (Some ticket) request) same) (omega (arith, sum, ap count_reads gone))
+    asks_more gone ticket (Read request) (Leads rtr none is answered done left one) = Leads rtr none (ap (λ z. asked_for z (Some ticket) request) is) answered done refl one
+
+-- the RTR is sent
+sends_ready : (s : StreamState) (t : Tale) (from : ℕ) (octets : Octets) → (p : EmitsReady s from octets) → t.story.start ≡ s.start → s.sent ≡ length t.sent → Emits s t → Emits (left_frame s (Ready p.rtr)) (tale_after t (Emit (Frame from octets)))
+sends_ready s t from octets p start sent e =
+    let rtr : Rtr = p.rtr in
+    let message : Request Octets = rtr_message p.rtr in
+    let l = lives s t e p.speaks.running in
+    let due = ready_due s p.rtr p.is_due in
+    let segment : Segment Octets = rtr_segment s.numbers p.rtr in
+    let s' : StreamState = left_frame s (Ready p.rtr) in
+    let good : IsSendable segment = rtr_good s.numbers p.rtr e.numbers in
+    let spoken : nat_lt s.sent (first_place_out s.start) ≡ false = all_spoken s p.speaks.spoken (runs_unbroken s.ending p.speaks.running) in
+    let r = reads_again s t from octets segment start p.from_is spoken p.octets_are good sent e l.none in
+    let nothing : e.segments ≡ [] = sym (alone_out e.segments (farewells t.story.farewell) l.none) ∙ nothing_out s t e sent spoken due.place in
+    let ready : ready_in s.start ≡ message ∷ [] = ap (λ o. listed (option_map rtr_message o)) due.agreed in
+    let left : e.left ≡ message ∷ [] = elim e.spoken [
+      | inl gone ↦ absurd (omega (arith, e.whole, ap count_last nothing, ap length gone, ap length ready))
+      | inr all ↦ all.1 ∙ ready
+    ] in
+    let unsent : t.story.whole ≡ 0 = omega (arith, e.whole, ap count_last nothing, ap length left, ap length ready) in
+    let numbers : s.numbers ≡ first_numbers = (l.merges.fresh nothing).numbers_are in
+    let quiet : last_word t.story.ending ≡ None = ap last_word e.parts.ending ∙ runs_quiet s.ending p.speaks.running in
+    let first : is_rtr t.story from ≡ true = (λ i. is_some (rtr_in (start i)) && nat_eq (p.from_is i) (first_place_out (start i))) ∙ (λ i. is_some (due.agreed i) && nat_eq (due.place i) (first_place_out s.start)) ∙ same_number (first_place_out s.start) in
+    let story : story_after t.story (Emit (Frame from octets)) ≡ sends_rtr t.story segment =
+    (λ i. cond (r.past i) t.story (option_map_or (says_farewell t.story) (quiet i) (option_map_or (sends_frame t.story (first i)) (r.told (rtr_plain s.numbers p.rtr) i) t.story))) in
+    let reads : (sends_rtr t.story segment).reads ≡ reads_with s.reads None message =
+    ap (λ z. option_map_or (asked_for z None) (read_out segment) z) e.asks.reads ∙ asks_read s.numbers message 0 true [] s.reads None (rtr_fits p.rtr) in
+    let none : length e.asking ≡ 0 = none_outstanding unsent e.counts in
+    let few : e.done ≤ 0 = omega (arith, e.counts.some, ap count_reads (no_messages e.counts.first (sym e.counts.lasts ∙ unsent))) in
+    let old : ReadsAre (message ∷ []) (message ∷ []) s.reads e.asking t.story.answered e.done =
+    subst (λ z. ReadsAre (message ∷ []) z s.reads e.asking t.story.answered e.done) left (subst (λ z. ReadsAre z e.left s.reads e.asking t.story.answered e.done) ready e.reads) in
+    let now : ReadsAre (message ∷ []) [] (reads_with s.reads None message) e.asking t.story.answered e.done = asked p.rtr s.reads e.asking none few old in
+    let out : (e.segments ++ segment ∷ []) ++ farewells t.story.farewell ≡ e.segments ++ segment ∷ [] = alone_out (e.segments ++ segment ∷ []) (farewells t.story.farewell) l.none in
+    let merges : Merges (with_left (message ∷ []) s.queue) s.numbers s.asked.unanswered t.story.begun (message ∷ t.posted) t.story.answers e.segments =
+    same_merges (λ i. with_left (sym left i) s.queue) refl refl refl (λ i. sym ready i ++ t.posted) refl l.merges in
+    let spelled : AreSegments first_numbers message 0 (segment ∷ []) = subst (λ n. AreSegments first_numbers message 0 (rtr_segment n p.rtr ∷ [])) (sym numbers) (rtr_spelled p.rtr) in
+    subst (λ z. Emits s' (record (tale_after t (Emit (Frame from octets))) { story = z })) (sym story)
+    (record {
+      segments = e.segments ++ segment ∷ [];
+      kept = s.queue;
+      before = t.handed ++ [];
+      left = [];
+      done = e.done;
+      asking = e.asking;
+      live = λ h. record { queue = refl; handed = refl };
+      merges = same_merges refl refl refl refl ((λ i. ready i ++ (t.posted ++ [])) ∙ ap (λ z. message ∷ z) (append-nil t.posted)) refl
+          (merges_sent s.queue s.numbers s.asked.unanswered t.story.begun t.posted t.story.answers e.segments message segment nothing spelled merges);
+      spoken = inl refl;
+      asks = record {
+        reads = reads;
+        asked = e.asks.asked;
+        fetched = e.asks.fetched;
+        begun = e.asks.begun;
+        few = room p.rtr due.agreed old none e.asks.few;
+      };
+      good = subst (Each IsSendable) (sym out) (each-push IsSendable e.segments segment l.good good);
+      framed = subst (IsFramed s.start (t.sent ++ octets)) (sym out) (Spoken r.framed);
+      parts = loud_parts s s' t.story (sends_rtr t.story segment) e.segments (e.segments ++ segment ∷ []) p.speaks.started p.speaks.loud (record { ending = refl; told = refl; farewell = refl }) e.parts;
+      limits = l.limits;
+      fit = subst (Each FitsPosted) (sym (append-nil t.posted)) e.fit;
+      numbers = next_small s.numbers message e.numbers;
+      size = e.size;
+      enough = e.enough;
+      few = e.few;
+      counts = same_counts refl (append-nil t.posted) (append-nil t.handed) refl refl l.counts;
+      handing = handing_of (same_counts refl (append-nil t.posted) (append-nil t.handed) refl refl l.counts);
+      reads = subst (λ z. ReadsAre z [] (reads_with s.reads None message) e.asking t.story.answered e.done) (sym ready) now;
+      whole = omega (arith, ap count_last nothing, count_last-append e.segments (segment ∷ []), ap one_for (rtr_whole s.numbers p.rtr), unsent, ap length ready);
+    })
+  where
+    same_number : (n : ℕ) → nat_eq n n ≡ true
+    same_number n = grind (arith, nat_tests)
+
+    no_messages : (xs : List (Request Octets)) → length xs ≡ 0 → xs ≡ []
+    no_messages [] h = refl
+    no_messages (x ∷ xs) h = absurd (omega (arith, h))
+
+    no_reads : (xs : List Outstanding) → length xs ≡ 0 → xs ≡ []
+    no_reads [] h = refl
+    no_reads (x ∷ xs) h = absurd (omega (arith, h))
+
+    asked : (rtr : Rtr) (reads asking : List Outstanding) {answered done : ℕ} → length asking ≡ 0 → done ≤ 0 → ReadsAre (rtr_message rtr ∷ []) (rtr_message rtr ∷ []) reads asking answered done
+        → ReadsAre (rtr_message rtr ∷ []) [] (reads_with reads None (rtr_message rtr)) asking answered done
+    asked rtr reads asking none few (Leads old ticket is zero_is done left one) = absurd (omega (arith, ap length left))
+    asked rtrs.Write reads asking none few (Apart same sum) = Apart same sum
+    asked rtrs.Read reads asking none few (Apart same sum) =
+        let nil : asking ≡ [] = no_reads asking none in
+        let request : Outstanding = record { ticket = None; request = rtr_request; turned = 0 } in
+        Leads request refl (ap (λ z. z ++ request ∷ []) (same ∙ nil) ∙ ap (λ z. request ∷ z) (sym nil)) (omega (arith, sum, few)) (omega (arith, few)) refl refl
+
+    room : (rtr : Rtr) → rtr_in s.start ≡ Some rtr → {asking : List Outstanding} {answered done : ℕ} → ReadsAre (rtr_message rtr ∷ []) (rtr_message rtr ∷ []) s.reads asking answered done → length asking ≡ 0 → length s.reads ≤ most_reads_in s.start
+        → length (reads_with s.reads None (rtr_message rtr)) ≤ most_reads_in s.start
+    room rtr agreed (Leads old ticket is zero_is done left one) none few = absurd (omega (arith, ap length left))
+    room rtrs.Write agreed (Apart same sum) none few = few
+    room rtrs.Read agreed (Apart same sum) none few = omega (arith, ready_room s.start agreed, length_push s.reads (record { ticket = None; request = rtr_request; turned = 0 }), ap length same, none)
 
 -- the start-up frame is sent
 sends_start : (s : StreamState) (t : Tale) (from : ℕ) (octets : Octets) → EmitsStart s from octets → t.story.start ≡ s.start → s.sent ≡ length t.sent → Emits s t → Emits (left_frame s StartUp) (tale_after t (Emit (Frame from octets)))
@@ -837,14 +1055,18 @@ sends_start s t from octets p start sent e =
     let before = before_start s t e sent p.owes in
     let first : nat_lt from (first_place_out t.story.start) ≡ true = (λ i. nat_lt (p.from_is i) (first_place_out (start i))) ∙ (owes_some s p.owes).1 in
     let story : story_after t.story (Emit (Frame from octets)) ≡ t.story =
-    ap (λ b. cond b t.story (option_map_or (says_farewell t.story) (last_word t.story.ending) (option_map_or (sends_segment t.story) (segment_out t.story from octets) t.story))) first in
+    ap (λ b. cond b t.story (option_map_or (says_farewell t.story) (last_word t.story.ending) (option_map_or (sends_frame t.story (is_rtr t.story from)) (segment_out t.story from octets) t.story))) first in
     subst (λ z. Emits s' (record (tale_after t (Emit (Frame from octets))) { story = z })) (sym story)
     (record {
       segments = e.segments;
       kept = e.kept;
       before = e.before;
+      left = e.left;
+      done = e.done;
+      asking = e.asking;
       live = λ h. let l = e.live h in record { queue = l.queue; handed = append-nil t.handed ∙ l.handed };
-      merges = same_merges refl refl refl refl (append-nil t.posted) refl e.merges;
+      merges = same_merges refl refl refl refl (ap (λ z. ready_in s.start ++ z) (append-nil t.posted)) refl e.merges;
+      spoken = e.spoken;
       asks = same_asks s s' t.story t.story refl refl (stays_said t.story) e.asks.few e.asks;
       good = e.good;
       framed = Spoken
@@ -859,6 +1081,7 @@ sends_start s t from octets p start sent e =
       few = e.few;
       counts = same_counts refl (append-nil t.posted) refl refl refl e.counts;
       handing = same_handing refl (append-nil t.posted) (append-nil t.handed) refl e.handing;
+      reads = e.reads;
       whole = e.whole;
     })
 
@@ -873,14 +1096,18 @@ sends_last s t from octets p start sent e =
     let r = reads_again s t from octets segment start p.from_is spoken p.octets_are good sent e (ap farewells fresh) in
     let due : last_word t.story.ending ≡ Some p.payload = ap last_word e.parts.ending ∙ p.is_due in
     let story : story_after t.story (Emit (Frame from octets)) ≡ says_farewell t.story p.payload =
-    (λ i. cond (r.past i) t.story (option_map_or (says_farewell t.story) (due i) (option_map_or (sends_segment t.story) (segment_out t.story from octets) t.story))) in
+    (λ i. cond (r.past i) t.story (option_map_or (says_farewell t.story) (due i) (option_map_or (sends_frame t.story (is_rtr t.story from)) (segment_out t.story from octets) t.story))) in
     subst (λ z. Emits s' (record (tale_after t (Emit (Frame from octets))) { story = z })) (sym story)
     (record {
       segments = e.segments;
       kept = e.kept;
       before = e.before;
+      left = e.left;
+      done = e.done;
+      asking = e.asking;
       live = λ h. absurd (true≢false h);
-      merges = same_merges refl refl refl refl (append-nil t.posted) refl e.merges;
+      merges = same_merges refl refl refl refl (ap (λ z. ready_in s.start ++ z) (append-nil t.posted)) refl e.merges;
+      spoken = e.spoken;
       asks = record { reads = e.asks.reads; asked = e.asks.asked; fetched = e.asks.fetched; begun = e.asks.begun; few = e.asks.few };
       good = each-push IsSendable e.segments segment (each-first IsSendable e.segments (farewells t.story.farewell) e.good) good;
       framed = Spoken r.framed;
@@ -899,17 +1126,19 @@ sends_last s t from octets p start sent e =
       few = e.few;
       counts = same_counts refl (append-nil t.posted) refl refl refl e.counts;
       handing = same_handing refl (append-nil t.posted) (append-nil t.handed) refl e.handing;
+      reads = e.reads;
       whole = e.whole;
     })
 
 -- a frame is sent
-sends_frame : (table : Table) (s : StreamState) (t : Tale) (from : ℕ) (octets : Octets) → Frame from octets ≡ shown_of table (emission_of table s) (emitted table s) → t.story.start ≡ s.start → s.sent ≡ length t.sent → Emits s t → Emits (after_act s (Emit (Frame from octets))) (tale_after t (Emit (Frame from octets)))
-sends_frame table s t from octets rule start sent e = go (emits_as table s (Frame from octets) rule)
+frame_sent : (table : Table) (s : StreamState) (t : Tale) (from : ℕ) (octets : Octets) → Frame from octets ≡ shown_of table (emission_of table s) (emitted table s) → t.story.start ≡ s.start → s.sent ≡ length t.sent → Emits s t → Emits (after_act s (Emit (Frame from octets))) (tale_after t (Emit (Frame from octets)))
+frame_sent table s t from octets rule start sent e = go (emits_as table s (Frame from octets) rule)
   where
-    go : EmitsStart s from octets ⊎ (EmitsLast s from octets ⊎ EmitsPart s from octets) → Emits (left_frame s (due s)) (tale_after t (Emit (Frame from octets)))
+    go : EmitsStart s from octets ⊎ (EmitsLast s from octets ⊎ (EmitsReady s from octets ⊎ EmitsPart s from octets)) → Emits (left_frame s (due s)) (tale_after t (Emit (Frame from octets)))
     go (inl p) = subst (λ d. Emits (left_frame s d) (tale_after t (Emit (Frame from octets)))) (sym p.next) (sends_start s t from octets p start sent e)
     go (inr (inl p)) = subst (λ d. Emits (left_frame s d) (tale_after t (Emit (Frame from octets)))) (sym p.next) (sends_last s t from octets p start sent e)
-    go (inr (inr p)) = subst (λ d. Emits (left_frame s d) (tale_after t (Emit (Frame from octets)))) (sym p.next) (sends_part s t from octets p start sent e)
+    go (inr (inr (inl p))) = subst (λ d. Emits (left_frame s d) (tale_after t (Emit (Frame from octets)))) (sym p.next) (sends_ready s t from octets p start sent e)
+    go (inr (inr (inr p))) = subst (λ d. Emits (left_frame s d) (tale_after t (Emit (Frame from octets)))) (sym p.next) (sends_part s t from octets p start sent e)
 
 -- of what is shown as a frame alone nothing is of a response
 abbrev IsPlain : Option (Segment Octets) → Type 0
@@ -930,6 +1159,14 @@ last_plain s t from octets p start sent e =
     let spoken : nat_lt s.sent (first_place_out s.start) ≡ false = all_spoken s p.spoken (word_unbroken s.ending p.payload p.is_due) in
     subst IsPlain (sym ((reads_again s t from octets segment start p.from_is spoken p.octets_are good sent e (ap farewells fresh)).told refl)) refl
 
+ready_plain : (s : StreamState) (t : Tale) (from : ℕ) (octets : Octets) → (p : EmitsReady s from octets) → t.story.start ≡ s.start → s.sent ≡ length t.sent → Emits s t → IsPlain (segment_out t.story from octets)
+ready_plain s t from octets p start sent e =
+    let l = lives s t e p.speaks.running in
+    let segment : Segment Octets = rtr_segment s.numbers p.rtr in
+    let spoken : nat_lt s.sent (first_place_out s.start) ≡ false = all_spoken s p.speaks.spoken (runs_unbroken s.ending p.speaks.running) in
+    let plain : carries_response segment ≡ false = rtr_plain s.numbers p.rtr in
+    subst IsPlain (sym ((reads_again s t from octets segment start p.from_is spoken p.octets_are (rtr_good s.numbers p.rtr e.numbers) sent e l.none).told plain)) plain
+
 part_plain : (s : StreamState) (t : Tale) (from : ℕ) (octets : Octets) → (p : EmitsPart s from octets) → t.story.start ≡ s.start → s.sent ≡ length t.sent → Emits s t → IsPlain (segment_out t.story from octets)
 part_plain s t from octets p start sent e =
     let loud = p.is_loud in
@@ -945,7 +1182,8 @@ pub frame_plain : (table : Table) (s : StreamState) (t : Tale) (from : ℕ) (oct
 frame_plain table s t from octets rule start sent e = elim (emits_as table s (Frame from octets) rule) [
   | inl p ↦ start_plain s t from octets p start
   | inr (inl p) ↦ last_plain s t from octets p start sent e
-  | inr (inr p) ↦ part_plain s t from octets p start sent e
+  | inr (inr (inl p)) ↦ ready_plain s t from octets p start sent e
+  | inr (inr (inr p)) ↦ part_plain s t from octets p start sent e
 ]
 
 -- ---- responses
@@ -1096,7 +1334,7 @@ sends_response table s t from frame stag to octets p start sent e = go (answers_
     go : Answers table s t.story from frame stag to octets → Emits (after_act s (Emit (Fetched from frame stag to octets))) (tale_after t (Emit (Fetched from frame stag to octets)))
     go w = by w.last refl
       where
-        l : Live s t e.segments
+        l : Live s t e
         l = lives s t e p.speaks.running
 
         few : length octets + 14 ≤ 64512
@@ -1111,6 +1349,9 @@ sends_response table s t from frame stag to octets p start sent e = go (answers_
         waits : t.story.asked.unanswered ≡ w.oldest ∷ w.others
         waits = ap (λ (z : Requested). z.unanswered) e.asks.asked ∙ w.waiting
 
+        gone : e.left ≡ []
+        gone = ready_gone s t e sent p.speaks.running p.speaks.spoken p.unready
+
         none : count_last (e.segments ++ response_segment w.oldest.request (length t.story.begun) w.last octets ∷ []) ≡ count_last e.segments
         none = count_last-append e.segments (response_segment w.oldest.request (length t.story.begun) w.last octets ∷ []) ∙ omega (arith, ap one_for (no_end w.last))
 
@@ -1120,8 +1361,17 @@ sends_response table s t from frame stag to octets p start sent e = go (answers_
         all : us ++ farewells t.story.farewell ≡ us
         all = alone_out us (farewells t.story.farewell) l.none
 
-        counts : Counts s.queue us (t.posted ++ []) (t.handed ++ []) t.story.answered s.reads
-        counts = more_counts (sym none) (same_counts refl (append-nil t.posted) (append-nil t.handed) refl refl l.counts)
+        counts : Counts s.queue t.story.whole (t.posted ++ []) (t.handed ++ []) e.done e.asking
+        counts = same_counts refl (append-nil t.posted) (append-nil t.handed) refl refl l.counts
+
+        reads : ReadsAre (ready_in s.start) [] s.reads e.asking t.story.answered e.done
+        reads = subst (λ z. ReadsAre (ready_in s.start) z s.reads e.asking t.story.answered e.done) gone e.reads
+
+        whole : count_last us + 0 ≡ length (ready_in s.start) + t.story.whole
+        whole = omega (arith, none, e.whole, ap length gone)
+
+        posted_stay : ready_in s.start ++ (t.posted ++ []) ≡ ready_in s.start ++ t.posted
+        posted_stay = ap (λ z. ready_in s.start ++ z) (append-nil t.posted)
 
         story_is : story_after t.story (Emit (Fetched from frame stag to octets)) ≡ cond w.last (story_answered t.story w.oldest w.others octets) (story_begun t.story octets)
         story_is = ap (λ z. fetches_for t.story z octets) waits ∙ ap (λ b. cond b (story_answered t.story w.oldest w.others octets) (story_begun t.story octets)) (sym w.last_is)
@@ -1133,8 +1383,8 @@ sends_response table s t from frame stag to octets p start sent e = go (answers_
         state_is : after_act s (Emit (Fetched from frame stag to octets)) ≡ cond w.last (left_answered s w.others frame) (left_begun s (length t.story.begun + length octets) frame)
         state_is = (λ i. record s { asked = w.left i; sent = s.sent + length frame }) ∙ out w.last
 
-        merges : Merges s.queue s.numbers (w.oldest ∷ w.others) t.story.begun t.posted t.story.answers e.segments
-        merges = same_merges refl refl (sym w.waiting) refl refl refl l.merges
+        merges : Merges s.queue s.numbers (w.oldest ∷ w.others) t.story.begun (ready_in s.start ++ t.posted) t.story.answers e.segments
+        merges = same_merges (λ i. with_left (sym gone i) s.queue) refl (sym w.waiting) refl refl refl l.merges
 
         left_over : w.last ≡ false → length t.story.begun + length octets < w.oldest.request.size
         left_over is = not_whole (length t.story.begun + length octets) w.oldest.request.size (sym w.last_is ∙ is) w.within
@@ -1150,10 +1400,14 @@ sends_response table s t from frame stag to octets p start sent e = go (answers_
               segments = us;
               kept = s.queue;
               before = t.handed ++ [];
+              left = [];
+              done = e.done;
+              asking = e.asking;
               live = λ h. record { queue = refl; handed = refl };
-              merges = subst (λ b. Merges s.queue s.numbers w.others [] (t.posted ++ []) (t.story.answers ++ record { request = w.oldest.request; octets = t.story.begun ++ octets } ∷ []) (e.segments ++ response_segment w.oldest.request (length t.story.begun) b octets ∷ [])) (sym is)
-                  (same_merges refl refl refl refl (append-nil t.posted) refl
-                  (merges_last s.queue s.numbers w.oldest w.others t.story.begun octets t.posted t.story.answers e.segments w.unbegun (omega (arith, few)) (is_whole_size (length t.story.begun + length octets) w.oldest.request.size (sym w.last_is ∙ is)) merges));
+              merges = subst (λ b. Merges s.queue s.numbers w.others [] (ready_in s.start ++ (t.posted ++ [])) (t.story.answers ++ record { request = w.oldest.request; octets = t.story.begun ++ octets } ∷ []) (e.segments ++ response_segment w.oldest.request (length t.story.begun) b octets ∷ [])) (sym is)
+                  (same_merges refl refl refl refl posted_stay refl
+                  (merges_last s.queue s.numbers w.oldest w.others t.story.begun octets (ready_in s.start ++ t.posted) t.story.answers e.segments w.unbegun (omega (arith, few)) (is_whole_size (length t.story.begun + length octets) w.oldest.request.size (sym w.last_is ∙ is)) merges));
+              spoken = inl refl;
               asks = record {
                 reads = e.asks.reads;
                 asked = (λ i. record (e.asks.asked i) { unanswered = w.others; fetched = 0 });
@@ -1172,7 +1426,8 @@ sends_response table s t from frame stag to octets p start sent e = go (answers_
               few = e.few;
               counts = counts;
               handing = handing_of counts;
-              whole = e.whole ∙ sym none;
+              reads = reads;
+              whole = whole;
             }))
         by false is =
             subst (λ z. Emits z (tale_after t (Emit (Fetched from frame stag to octets)))) (sym (state_is ∙ ap (λ b. cond b (left_answered s w.others frame) (left_begun s (length t.story.begun + length octets) frame)) is))
@@ -1181,10 +1436,14 @@ sends_response table s t from frame stag to octets p start sent e = go (answers_
               segments = us;
               kept = s.queue;
               before = t.handed ++ [];
+              left = [];
+              done = e.done;
+              asking = e.asking;
               live = λ h. record { queue = refl; handed = refl };
-              merges = subst (λ b. Merges s.queue s.numbers s.asked.unanswered (t.story.begun ++ octets) (t.posted ++ []) t.story.answers (e.segments ++ response_segment w.oldest.request (length t.story.begun) b octets ∷ [])) (sym is)
-                  (same_merges refl refl w.waiting refl (append-nil t.posted) refl
-                  (merges_front s.queue s.numbers w.oldest w.others t.story.begun octets t.posted t.story.answers e.segments w.unbegun (omega (arith, few)) (some_left is) (left_over is) merges));
+              merges = subst (λ b. Merges s.queue s.numbers s.asked.unanswered (t.story.begun ++ octets) (ready_in s.start ++ (t.posted ++ [])) t.story.answers (e.segments ++ response_segment w.oldest.request (length t.story.begun) b octets ∷ [])) (sym is)
+                  (same_merges refl refl w.waiting refl posted_stay refl
+                  (merges_front s.queue s.numbers w.oldest w.others t.story.begun octets (ready_in s.start ++ t.posted) t.story.answers e.segments w.unbegun (omega (arith, few)) (some_left is) (left_over is) merges));
+              spoken = inl refl;
               asks = record {
                 reads = e.asks.reads;
                 asked = (λ i. record (e.asks.asked i) { fetched = length t.story.begun + length octets });
@@ -1203,13 +1462,15 @@ sends_response table s t from frame stag to octets p start sent e = go (answers_
               few = e.few;
               counts = counts;
               handing = handing_of counts;
-              whole = e.whole ∙ sym none;
+              reads = reads;
+              whole = whole;
             }))
 
 -- the oldest message is handed back, finished or given up
 hands_back : (s : StreamState) (t : Tale) (kind : Kind) (d : Done) (act : StreamAct Octets) → kind ≡ d.kind → posted_by act ≡ [] → handed_by act ≡ kind ∷ [] → size_after t.size act ≡ t.size → sent_by act ≡ [] → story_after t.story act ≡ t.story
     → (e : Emits s t) → (kept : Queue) (before : List Kind) → (ended s ≡ false → IsLive (record s { queue = handed_from s.queue (Some d) }) (tale_after t act) kept before)
-    → Merges kept s.numbers s.asked.unanswered t.story.begun t.posted t.story.answers e.segments → IsWithinLimits kept → (n : Counts kept e.segments t.posted before t.story.answered s.reads) → Handing (handed_from s.queue (Some d)) n.first (t.posted ++ []) (t.handed ++ d.kind ∷ []) t.story.answered → Emits (record s { queue = handed_from s.queue (Some d) }) (tale_after t act)
+    → Merges (with_left e.left kept) s.numbers s.asked.unanswered t.story.begun (ready_in s.start ++ t.posted) t.story.answers e.segments → IsWithinLimits kept → (n : Counts kept t.story.whole t.posted before e.done e.asking)
+    → Handing (handed_from s.queue (Some d)) n.first (t.posted ++ []) (t.handed ++ d.kind ∷ []) e.done → Emits (record s { queue = handed_from s.queue (Some d) }) (tale_after t act)
 hands_back s t kind d act kind_is posted handed size sent story e kept before live merges limits counts handing =
     let s' : StreamState = record s { queue = handed_from s.queue (Some d) } in
     let same : t.posted ++ posted_by act ≡ t.posted = ap (λ z. t.posted ++ z) posted ∙ append-nil t.posted in
@@ -1218,8 +1479,12 @@ hands_back s t kind d act kind_is posted handed size sent story e kept before li
       segments = e.segments;
       kept = kept;
       before = before;
+      left = e.left;
+      done = e.done;
+      asking = e.asking;
       live = λ h. let l = live h in record { queue = l.queue; handed = l.handed };
-      merges = same_merges refl refl refl refl same refl merges;
+      merges = same_merges refl refl refl refl (ap (λ z. ready_in s.start ++ z) same) refl merges;
+      spoken = e.spoken;
       asks = record { reads = e.asks.reads; asked = e.asks.asked; fetched = e.asks.fetched; begun = e.asks.begun; few = e.asks.few };
       good = e.good;
       framed = subst (λ z. IsFramed s.start z (out_of s t e)) (sym (ap (λ z. t.sent ++ z) sent ∙ append-nil t.sent)) e.framed;
@@ -1232,6 +1497,7 @@ hands_back s t kind d act kind_is posted handed size sent story e kept before li
       few = e.few;
       counts = same_counts refl same refl refl refl counts;
       handing = same_handing refl (same ∙ sym (append-nil t.posted)) (ap (λ z. t.handed ++ z) (handed ∙ ap (λ z. z ∷ []) kind_is)) refl handing;
+      reads = e.reads;
       whole = e.whole;
     })
 
@@ -1239,7 +1505,7 @@ hands_back s t kind d act kind_is posted handed size sent story e kept before li
 hands_over : (s : StreamState) (t : Tale) (kind : Kind) (d : Done) (act : StreamAct Octets) → IsHandedOut s.queue d → kind ≡ d.kind → posted_by act ≡ [] → handed_by act ≡ kind ∷ [] → size_after t.size act ≡ t.size → sent_by act ≡ [] → story_after t.story act ≡ t.story
     → ended s ≡ true → Emits s t → Emits (record s { queue = handed_from s.queue (Some d) }) (tale_after t act)
 hands_over s t kind d act out kind_is posted handed size sent story over e =
-    hands_back s t kind d act kind_is posted handed size sent story e e.kept e.before (λ h. absurd (true≢false (sym over ∙ h))) e.merges e.limits e.counts (one_handed s.queue e.counts.first t.posted t.handed t.story.answered d out e.handing)
+    hands_back s t kind d act kind_is posted handed size sent story e e.kept e.before (λ h. absurd (true≢false (sym over ∙ h))) e.merges e.limits e.counts (one_handed s.queue e.counts.first t.posted t.handed e.done d out e.handing)
 
 -- a finished message is handed out
 hands_out : (s : StreamState) (t : Tale) (kind : Kind) (d : Done) → done_in s.queue ≡ Some d → kind ≡ d.kind → Emits s t → Emits (after_act s (Work (seen.Done kind))) (tale_after t (Work (seen.Done kind)))
@@ -1254,11 +1520,11 @@ hands_out s t kind d finished kind_is e =
     go false running =
         let l = lives s t e running in
         let h = hands s.queue d finished in
-        let counts : Counts (handed_from s.queue (Some d)) e.segments (t.posted ++ []) (t.handed ++ d.kind ∷ []) t.story.answered s.reads =
-        subst (λ z. Counts (handed_from s.queue z) e.segments (t.posted ++ []) (t.handed ++ d.kind ∷ []) t.story.answered s.reads) finished (handed_counts s.queue e.segments t.posted t.handed t.story.answered s.reads d finished l.counts) in
+        let counts : Counts (handed_from s.queue (Some d)) t.story.whole (t.posted ++ []) (t.handed ++ d.kind ∷ []) e.done e.asking =
+        subst (λ z. Counts (handed_from s.queue z) t.story.whole (t.posted ++ []) (t.handed ++ d.kind ∷ []) e.done e.asking) finished (handed_counts s.queue t.story.whole t.posted t.handed e.done e.asking d finished l.counts) in
         hands_back s t kind d (Work (seen.Done kind)) kind_is refl refl refl refl refl e (handed_from s.queue (Some d)) (t.handed ++ d.kind ∷ [])
         (λ z. record { queue = refl; handed = ap (λ k. t.handed ++ k ∷ []) kind_is })
-        (same_merges h.left refl refl refl refl refl (sent_merges l.merges))
+        (same_merges (ap (with_left e.left) h.left) refl refl refl refl refl (sent_merges l.merges))
         (subst (λ z. IsWithinLimits (handed_from s.queue z)) finished (limits_handed s.queue l.limits))
         (same_counts refl (sym (append-nil t.posted)) refl refl refl counts) (handing_of counts)
 
@@ -1289,8 +1555,12 @@ sets_size s t size rule e =
       segments = e.segments;
       kept = e.kept;
       before = e.before;
+      left = e.left;
+      done = e.done;
+      asking = e.asking;
       live = λ h. let l = e.live h in record { queue = l.queue; handed = append-nil t.handed ∙ l.handed };
-      merges = same_merges refl refl refl refl (append-nil t.posted) refl e.merges;
+      merges = same_merges refl refl refl refl (ap (λ z. ready_in s.start ++ z) (append-nil t.posted)) refl e.merges;
+      spoken = e.spoken;
       asks = same_asks s s' t.story t.story refl refl (stays_said t.story) e.asks.few e.asks;
       good = e.good;
       framed = subst (λ z. IsFramed s.start z (out_of s t e)) (sym (append-nil t.sent)) e.framed;
@@ -1303,6 +1573,7 @@ sets_size s t size rule e =
       few = z.few;
       counts = same_counts refl (append-nil t.posted) refl refl refl e.counts;
       handing = same_handing refl (append-nil t.posted) (append-nil t.handed) refl e.handing;
+      reads = e.reads;
       whole = e.whole;
     }
 
@@ -1375,19 +1646,19 @@ loud table s t act rule same first k turns =
 -- the stream ends, and no Terminate is due: it may speak, or its link broke
 ends_loud : (s s' : StreamState) (t : Tale) (act : StreamAct Octets) → s'.start ≡ s.start → StaysQuiet s s' t act → s'.ending ≡ Over None → (story_after t.story act).ending ≡ Over None → is_open s.start ≡ true → keeps_silent s' ≡ false → Emits s t → Emits s' (tale_after t act)
 ends_loud s s' t act start q ending told started loud e =
-    stays s s' t act q (same_most s s' t start e) e (nothing_more s s' t act start q.sent e)
+    stays s s' t act q (ap ready_in start) (same_most s s' t start e) e (nothing_more s s' t act start q.sent e)
     (quiet_parts s s' t.story (story_after t.story act) e.segments (Over None) ending told refl refl q.farewell e.parts (λ h. absurd (true≢false (sym started ∙ ap is_open (sym start) ∙ h))) (λ h. absurd (false≢true (sym loud ∙ h))))
 
 ends_broken : (s s' : StreamState) (t : Tale) (act : StreamAct Octets) → s'.start ≡ s.start → StaysQuiet s s' t act → s'.ending ≡ Broken → (story_after t.story act).ending ≡ Broken → StillSilent s s' → Emits s t → Emits s' (tale_after t act)
 ends_broken s s' t act start q ending told silent e =
-    stays s s' t act q (same_most s s' t start e) e (nothing_more s s' t act start q.sent e)
+    stays s s' t act q (ap ready_in start) (same_most s s' t start e) e (nothing_more s s' t act start q.sent e)
     (quiet_parts s s' t.story (story_after t.story act) e.segments Broken ending told refl refl q.farewell e.parts (λ h. (e.parts.shut (ap is_open (sym start) ∙ h)).none) (λ h. (e.parts.silent (silent h)).none))
 
 -- it ends by a fault: this Terminate is due
 ends_fault : (s s' : StreamState) (t : Tale) (act : StreamAct Octets) (payload said : Octets) → Track s t → s'.start ≡ s.start → StaysQuiet s s' t act → ended s ≡ false → is_open s.start ≡ true → StillSilent s s'
     → s'.ending ≡ cond (keeps_silent s) (Over None) (with_last_word payload) → (story_after t.story act).ending ≡ cond (is_silent t.story) (Over None) (with_last_word said) → said ≡ payload → length payload ≤ 52 → Emits s t → Emits s' (tale_after t act)
 ends_fault s s' t act payload said k start q running started silent ending told same few e =
-    stays s s' t act q (same_most s s' t start e) e (nothing_more s s' t act start q.sent e)
+    stays s s' t act q (ap ready_in start) (same_most s s' t start e) e (nothing_more s s' t act start q.sent e)
     (fault_parts s s' t.story (story_after t.story act) e.segments payload said running started start silent ending told (sym (silent_is s t k)) same few q.farewell e.parts)
 
 -- the Terminate for a fault of the frame at the in-order point
@@ -1431,11 +1702,11 @@ waits s number octets h = ap (λ n. is_responder s.start && nat_eq n (first_plac
 -- ---- turns
 
 -- a Read is finished by the last segment of its response, and no other is
-pub record Turns_reads (q : Queue) (reads left : List Outstanding) (ticket : Option ℕ) (us : List (Segment Octets)) (ms : List (Request Octets)) (ks : List Kind) (a : ℕ) : Type 0 where
+pub record Turns_reads (q : Queue) (reads left : List Outstanding) (ticket : Option ℕ) (us : ℕ) (ms : List (Request Octets)) (ks : List Kind) (a : ℕ) : Type 0 where
   pub counts : Counts (with_finished q ticket) us (ms ++ []) (ks ++ []) (a + (length reads - length left)) left
   pub few : length left ≤ length reads
 
-turning_reads : (q : Queue) (reads : List Outstanding) (n : ℕ) (o : Option (Segment Octets)) (us : List (Segment Octets)) (ms : List (Request Octets)) (ks : List Kind) (a : ℕ) → length q.sent.messages ≤ 256 → Counts q us ms ks a reads
+turning_reads : (q : Queue) (reads : List Outstanding) (n : ℕ) (o : Option (Segment Octets)) (us : ℕ) (ms : List (Request Octets)) (ks : List Kind) (a : ℕ) → length q.sent.messages ≤ 256 → Counts q us ms ks a reads
     → Turns_reads q reads (left_by_turn reads n o) (finishes_read reads o) us ms ks a
 turning_reads q reads n o us ms ks a few counts = go o
   where
@@ -1446,14 +1717,15 @@ turning_reads q reads n o us ms ks a few counts = go o
     last head [] is b l = subst (λ z. Turns_reads q reads z None us ms ks a) is none
     last head (read ∷ rs) is true l =
         let all : Counts q us ms ks a (read ∷ rs) = same_counts refl refl refl refl (sym is) counts in
-        subst (λ b. Turns_reads q reads (cond b rs (record read { turned = read.turned + n } ∷ rs)) (cond b (Some read.ticket) None) us ms ks a) (sym l)
-        (record {
-          counts = same_counts refl refl refl (omega (arith, ap length is)) refl (answered_counts q us ms ks a read rs few all);
+        let w = answered_counts q us ms ks a read rs few all in
+        subst (λ b. Turns_reads q reads (cond b rs (record read { turned = read.turned + n } ∷ rs)) (cond b read.ticket None) us ms ks a) (sym l)
+        (subst (λ o. Turns_reads q reads rs o us ms ks a) (sym w.1) (record {
+          counts = same_counts refl refl refl (omega (arith, ap length is)) refl w.2;
           few = omega (arith, ap length is);
-        })
+        }))
     last head (read ∷ rs) is false l =
         let all : Counts q us ms ks a (read ∷ rs) = same_counts refl refl refl refl (sym is) counts in
-        subst (λ b. Turns_reads q reads (cond b rs (record read { turned = read.turned + n } ∷ rs)) (cond b (Some read.ticket) None) us ms ks a) (sym l)
+        subst (λ b. Turns_reads q reads (cond b rs (record read { turned = read.turned + n } ∷ rs)) (cond b read.ticket None) us ms ks a) (sym l)
         (record {
           counts = same_counts refl (append-nil ms) (append-nil ks) (omega (arith, ap length is)) refl
               (record { order = all.order; first = all.first; split = all.split; lasts = all.lasts; counted = all.counted; oldest = all.oldest; marked = all.marked; some = all.some; done = all.done; tickets = all.tickets });
@@ -1469,9 +1741,50 @@ turning_reads q reads n o us ms ks a few counts = go o
     go (Some (Tagged head payload)) = by head (is_response head)
     go (Some (Untagged head payload)) = none
 
+-- and with the RTR among them
+pub record TurnsAll (q : Queue) (reads left : List Outstanding) (ticket : Option ℕ) (us : ℕ) (ms : List (Request Octets)) (ks : List Kind) (ready unsent : List (Request Octets)) (answered : ℕ) : Type 0 where
+  pub done : ℕ
+  pub asking : List Outstanding
+  pub counts : Counts (with_finished q ticket) us (ms ++ []) (ks ++ []) done asking
+  pub are : ReadsAre ready unsent left asking (answered + (length reads - length left)) done
+  pub few : length left ≤ length reads
+
+turning_all : (q : Queue) (reads : List Outstanding) (n : ℕ) (o : Option (Segment Octets)) (us : ℕ) (ms : List (Request Octets)) (ks : List Kind) (a : ℕ) (asking : List Outstanding) (ready unsent : List (Request Octets)) (answered : ℕ) → length q.sent.messages ≤ 256
+    → Counts q us ms ks a asking → ReadsAre ready unsent reads asking answered a → TurnsAll q reads (left_by_turn reads n o) (finishes_read reads o) us ms ks ready unsent answered
+turning_all q reads n o us ms ks a asking ready unsent answered few counts (Apart same sum) =
+    let turn = turning_reads q reads n o us ms ks a few (same_counts refl refl refl refl same counts) in
+    record { done = a + (length reads - length (left_by_turn reads n o)); asking = left_by_turn reads n o; counts = turn.counts; are = Apart refl (omega (arith, sum)); few = turn.few }
+turning_all q reads n o us ms ks a asking ready unsent answered few counts (Leads rtr none is zero_answered zero_done gone one) =
+    subst (λ z. TurnsAll q z (left_by_turn z n o) (finishes_read z o) us ms ks ready unsent answered) (sym is) (go o)
+  where
+    stay : Counts q us (ms ++ []) (ks ++ []) a asking
+    stay = same_counts refl (append-nil ms) (append-nil ks) refl refl counts
+
+    still : (rtr' : Outstanding) → rtr'.ticket ≡ None → TurnsAll q (rtr ∷ asking) (rtr' ∷ asking) None us ms ks ready unsent answered
+    still rtr' none' = record { done = a; asking = asking; counts = stay; are = Leads rtr' none' refl (omega (arith, zero_answered)) zero_done gone one; few = omega arith }
+
+    last : (head : TaggedHead) (b : Bool) → TurnsAll q (rtr ∷ asking) (cond b asking (record rtr { turned = rtr.turned + n } ∷ asking)) (cond b rtr.ticket None) us ms ks ready unsent answered
+    last head true =
+        subst (λ z. TurnsAll q (rtr ∷ asking) asking z us ms ks ready unsent answered) (sym none)
+        (record { done = a; asking = asking; counts = stay; are = Apart refl (omega (arith, zero_answered, zero_done, one, ap count_reads gone)); few = omega arith })
+    last head false = still (record rtr { turned = rtr.turned + n }) none
+
+    by : (head : TaggedHead) (b : Bool) → TurnsAll q (rtr ∷ asking) (cond b (reads_turned (rtr ∷ asking) head n) (rtr ∷ asking)) (cond b (finished_read (rtr ∷ asking) head) None) us ms ks ready unsent answered
+    by head true = last head head.last
+    by head false = still rtr none
+
+    go : (o : Option (Segment Octets)) → TurnsAll q (rtr ∷ asking) (left_by_turn (rtr ∷ asking) n o) (finishes_read (rtr ∷ asking) o) us ms ks ready unsent answered
+    go None = still rtr none
+    go (Some (Tagged head payload)) = by head (is_response head)
+    go (Some (Untagged head payload)) = still rtr none
+
 finished_merges : {q : Queue} {n : Numbers} {w : List Asked} {b : Octets} {ms : List (Request Octets)} {an : List Answer} {us : List (Segment Octets)} (o : Option ℕ) → Merges q n w b ms an us → Merges (with_finished q o) n w b ms an us
 finished_merges None k = k
 finished_merges (Some ticket) k = sent_merges k
+
+finished_left : (left : List (Request Octets)) (q : Queue) (o : Option ℕ) → with_left left (with_finished q o) ≡ with_finished (with_left left q) o
+finished_left left q None = refl
+finished_left left q (Some ticket) = refl
 
 finished_limits : (q : Queue) (o : Option ℕ) → IsWithinLimits q → IsWithinLimits (with_finished q o)
 finished_limits q None l = l
@@ -1490,16 +1803,20 @@ passes table s t rule k loud e =
     let l = lives s t e w.fronts.running in
     let o : Option (Segment Octets) = segment_at (fore s) in
     let reads : next_reads t.story ≡ reads_front s = next_reads_are s t true w.segment w.fronts k e.asks.reads in
-    let turn = turning_reads s.queue s.reads (length (payload_of o)) o e.segments t.posted t.handed t.story.answered (omega (arith, l.limits.posted)) l.counts in
+    let turn = turning_all s.queue s.reads (length (payload_of o)) o t.story.whole t.posted t.handed e.done e.asking (ready_in s.start) e.left t.story.answered (omega (arith, l.limits.posted)) l.counts e.reads in
     let answered : t.story.answered + (length t.story.reads - length (next_reads t.story)) ≡ t.story.answered + (length s.reads - length (reads_front s)) =
     (λ i. t.story.answered + (length (e.asks.reads i) - length (reads i))) in
-    let counts : Counts s'.queue e.segments t'.posted t'.handed t'.story.answered s'.reads = same_counts refl refl refl answered refl turn.counts in
+    let counts : Counts s'.queue t'.story.whole t'.posted t'.handed turn.done turn.asking = turn.counts in
     record {
       segments = e.segments;
       kept = s'.queue;
       before = t'.handed;
+      left = e.left;
+      done = turn.done;
+      asking = turn.asking;
       live = λ h. record { queue = refl; handed = refl };
-      merges = same_merges refl refl refl refl (append-nil t.posted) refl (finished_merges (finishes_read s.reads o) l.merges);
+      merges = same_merges (finished_left e.left s.queue (finishes_read s.reads o)) refl refl refl (ap (λ z. ready_in s.start ++ z) (append-nil t.posted)) refl (finished_merges (finishes_read s.reads o) l.merges);
+      spoken = e.spoken;
       asks = record {
         reads = reads;
         asked = e.asks.asked;
@@ -1518,17 +1835,19 @@ passes table s t rule k loud e =
       few = e.few;
       counts = counts;
       handing = handing_of counts;
+      reads = same_reads_are refl refl answered turn.are;
       whole = e.whole;
     }
 
 -- a Read Request is taken up
-merges_asked : (q : Queue) (s : StreamState) (t : Tale) (asked : Asked) (us : List (Segment Octets)) → Asks s t.story → Merges q s.numbers s.asked.unanswered t.story.begun t.posted t.story.answers us
-    → Merges q s.numbers (s.asked.unanswered ++ asked ∷ []) t.story.begun t.posted t.story.answers us
-merges_asked q s t asked us asks m = record {
+merges_asked : (q : Queue) (s : StreamState) (t : Tale) (asked : Asked) (ms : List (Request Octets)) (us : List (Segment Octets)) → Asks s t.story → Merges q s.numbers s.asked.unanswered t.story.begun ms t.story.answers us
+    → Merges q s.numbers (s.asked.unanswered ++ asked ∷ []) t.story.begun ms t.story.answers us
+merges_asked q s t asked ms us asks m = record {
   items = m.items;
   posts = m.posts;
   are = m.are;
   apart = m.apart;
+  fresh = λ none. let f = m.fresh none in record { numbers_are = f.numbers_are; offset = f.offset; none = f.none };
   done = m.done;
   partial = m.partial;
   segments_are = m.segments_are;
@@ -1560,8 +1879,12 @@ takes table s t size stag to rule k loud e =
       segments = e.segments;
       kept = e.kept;
       before = e.before;
+      left = e.left;
+      done = e.done;
+      asking = e.asking;
       live = λ h. let l = e.live h in record { queue = l.queue; handed = append-nil t.handed ∙ l.handed };
-      merges = same_merges refl refl (ap (λ (z : Requested). z.unanswered) state) refl (append-nil t.posted) refl (merges_asked e.kept s t x e.segments e.asks e.merges);
+      merges = same_merges refl refl (ap (λ (z : Requested). z.unanswered) state) refl (ap (λ z. ready_in s.start ++ z) (append-nil t.posted)) refl (merges_asked (with_left e.left e.kept) s t x (ready_in s.start ++ t.posted) e.segments e.asks e.merges);
+      spoken = e.spoken;
       asks = record {
         reads = e.asks.reads;
         asked = story ∙ sym state;
@@ -1580,12 +1903,13 @@ takes table s t size stag to rule k loud e =
       few = e.few;
       counts = same_counts refl (append-nil t.posted) refl refl refl e.counts;
       handing = same_handing refl (append-nil t.posted) (append-nil t.handed) refl e.handing;
+      reads = e.reads;
       whole = e.whole;
     }
 
 emitting : (table : Table) (s : StreamState) (t : Tale) (act : StreamAct Octets) → Told table s act → s.sent ≡ length t.sent → Track s t → Emits s t → Emits (after_act s act) (tale_after t act)
 emitting table s t (Post m None) rule sent k e = posts table s t m rule e
-emitting table s t (Emit (Frame from octets)) rule sent k e = sends_frame table s t from octets rule k.begins.start sent e
+emitting table s t (Emit (Frame from octets)) rule sent k e = frame_sent table s t from octets rule k.begins.start sent e
 emitting table s t (Emit (Fetched from frame stag to octets)) rule sent k e = sends_response table s t from frame stag to octets (emits_as table s (Fetched from frame stag to octets) rule) k.begins.start sent e
 emitting table s t (Emit (Denied fault)) rule sent k e =
     let p = emits_as table s (Denied fault) rule in
@@ -1731,9 +2055,23 @@ starting o table s (Work seen.Idle) rule h = h
 
 -- ---- Reads that are finished
 
+-- where a message was sent to its end, no RTR is left
+pub left_gone : {s : StreamState} {t : Tale} (e : Emits s t) → 0 < length e.counts.first → e.left ≡ []
+left_gone e some = elim e.spoken [
+  | inl gone ↦ gone
+  | inr all ↦ absurd (omega (arith, e.whole, ap count_last all.0, ap length all.1, e.counts.lasts, some))
+]
+
+few_responses : (ready : List (Request Octets)) (n : ℕ) {a : ℕ} → count_reads ready + n ≤ a → responses_done ready n ≤ a
+few_responses ready n {a} h = go (nat_eq n 0)
+  where
+    go : (b : Bool) → cond b 0 (count_reads ready + n) ≤ a
+    go true = omega arith
+    go false = h
+
 -- a message is finished that is the next of those that were sent to their end; of a Read the response was answered
-done_next : (s : StreamState) (t : Tale) (d : Done) → done_in s.queue ≡ Some d → Emits s t → Doing t → count_done (t.finished ++ d.kind ∷ []) ≤ t.story.answered
-done_next s t d done e k = go d.kind refl
+done_next : (s : StreamState) (t : Tale) (d : Done) → done_in s.queue ≡ Some d → t.story.start ≡ s.start → Emits s t → Doing t → responses_done (ready_of t.story) (count_done (t.finished ++ d.kind ∷ [])) ≤ t.story.answered
+done_next s t d done start e k = go d.kind refl
   where
     h : Hands s.queue d
     h = hands s.queue d done
@@ -1745,7 +2083,7 @@ done_next s t d done e k = go d.kind refl
     n = length t.handed
 
     some : length t.handed + 1 ≤ length e.counts.first
-    some = omega (arith, ap length (hands s.queue d done).is, ap length e.handing.marked, length-drop (length t.handed) (marks t.story.answered e.counts.first), length-marks t.story.answered e.counts.first)
+    some = omega (arith, ap length (hands s.queue d done).is, ap length e.handing.marked, length-drop (length t.handed) (marks e.done e.counts.first), length-marks e.done e.counts.first)
 
     kinds_are : map kind_of (take (length t.handed) e.counts.first) ≡ t.handed
     kinds_are =
@@ -1769,70 +2107,105 @@ done_next s t d done e k = go d.kind refl
     get_first (x ∷ xs) ys zero lt = refl
     get_first (x ∷ xs) ys (suc f) lt = get_first xs ys f (omega (arith, lt))
 
-    read : (m : Request Octets) → slice_get t.posted (length t.handed) ≡ Some m → kind_of m ≡ kinds.Read → count_done t.finished + 1 ≤ t.story.answered
+    read : (m : Request Octets) → slice_get t.posted (length t.handed) ≡ Some m → kind_of m ≡ kinds.Read → count_done t.finished + 1 ≤ e.done
     read (Posted (Write stag to octets)) is k = cc
     read (Posted (Send octets solicited invalidate)) is k = cc
     read (Read r) is kind =
         let there : slice_get e.counts.first (length t.handed) ≡ Some (Read r) = sym (get_first e.counts.first e.kept.unsent (length t.handed) (omega (arith, some))) ∙ ap (λ z. slice_get z (length t.handed)) (sym e.counts.split) ∙ is in
         let h = hands s.queue d done in
-        let few : count_reads (take (length t.handed + 1) e.counts.first) ≤ t.story.answered = read_mark t.story.answered (length t.handed) e.counts.first h.message h.messages r (sym e.handing.marked ∙ h.is) h.finished there in
-        let next : count_reads (take (suc (length t.handed)) e.counts.first) ≤ t.story.answered = rw add-one at few in
+        let few : count_reads (take (length t.handed + 1) e.counts.first) ≤ e.done = read_mark e.done (length t.handed) e.counts.first h.message h.messages r (sym e.handing.marked ∙ h.is) h.finished there in
+        let next : count_reads (take (suc (length t.handed)) e.counts.first) ≤ e.done = rw add-one at few in
         omega (arith, next, one_more (length t.handed) e.counts.first r there, below, k.among)
 
-    go : (kind : Kind) → d.kind ≡ kind → count_done (t.finished ++ kind ∷ []) ≤ t.story.answered
-    go kinds.Write is = omega (arith, count_done-append t.finished (kinds.Write ∷ []), k.answered)
-    go kinds.Send is = omega (arith, count_done-append t.finished (kinds.Send ∷ []), k.answered)
+    ready : ready_of t.story ≡ ready_in s.start
+    ready = ap ready_in start
+
+    same : (n : ℕ) → n ≡ count_done t.finished → responses_done (ready_of t.story) n ≤ t.story.answered
+    same n is = subst (λ n. responses_done (ready_of t.story) n ≤ t.story.answered) (sym is) k.answered
+
+    go : (kind : Kind) → d.kind ≡ kind → responses_done (ready_of t.story) (count_done (t.finished ++ kind ∷ [])) ≤ t.story.answered
+    go kinds.Write is = same (count_done (t.finished ++ kinds.Write ∷ [])) (count_done-append t.finished (kinds.Write ∷ []) ∙ omega arith)
+    go kinds.Send is = same (count_done (t.finished ++ kinds.Send ∷ [])) (count_done-append t.finished (kinds.Send ∷ []) ∙ omega arith)
     go kinds.Read is =
         let m = message_at t.posted t.handed d.kind (kinds_in (handed_from s.queue (Some d))) (e.handing.order ∙ ap (λ z. t.handed ++ z) (keeps_order.done s.queue d done).kind) in
-        omega (arith, count_done-append t.finished (kinds.Read ∷ []), read m.0 m.1 (sym m.2 ∙ is))
+        let more : count_done t.finished + 1 ≤ e.done = read m.0 m.1 (sym m.2 ∙ is) in
+        let sum : t.story.answered ≡ count_reads (ready_in s.start) + e.done = all_done (left_gone e (omega (arith, some))) (omega (arith, more)) e.reads in
+        few_responses (ready_of t.story) (count_done (t.finished ++ kinds.Read ∷ [])) (omega (arith, count_done-append t.finished (kinds.Read ∷ []), more, sum, ap count_reads ready))
 
--- the story answers no fewer
-quiet_doing : (t : Tale) (act : StreamAct Octets) → finished_by act ≡ [] → handed_by act ≡ [] → t.story.answered ≤ (story_after t.story act).answered → Doing t → Doing (tale_after t act)
-quiet_doing t act finished handed more k =
-    let same : t.finished ++ finished_by act ≡ t.finished = ap (λ z. t.finished ++ z) finished ∙ append-nil t.finished in
+-- the story answers no fewer, and what is agreed on stays, or nothing is finished
+quiet_doing : (t : Tale) (act : StreamAct Octets) → finished_by act ≡ [] → handed_by act ≡ [] → (ready_of (story_after t.story act) ≡ ready_of t.story) ⊎ (count_done t.finished ≡ 0) → t.story.answered ≤ (story_after t.story act).answered → Doing t → Doing (tale_after t act)
+quiet_doing t act finished handed stays more k =
+    let same : count_done (t.finished ++ finished_by act) ≡ count_done t.finished = ap count_done (ap (λ z. t.finished ++ z) finished ∙ append-nil t.finished) in
     let held : t.handed ++ handed_by act ≡ t.handed = ap (λ z. t.handed ++ z) handed ∙ append-nil t.handed in
-    record { answered = omega (arith, ap count_done same, more, k.answered); among = omega (arith, ap count_done same, ap count_done held, k.among) }
+    record {
+      answered = elim stays [
+        | inl ready ↦ (let was : responses_done (ready_of (story_after t.story act)) (count_done (t.finished ++ finished_by act)) ≡ responses_done (ready_of t.story) (count_done t.finished) = (λ i. responses_done (ready i) (same i)) in omega (arith, was, more, k.answered))
+        | inr none ↦ (let was : responses_done (ready_of (story_after t.story act)) (count_done (t.finished ++ finished_by act)) ≡ 0 = ap (responses_done (ready_of (story_after t.story act))) (same ∙ none) in omega (arith, was))
+      ];
+      among = omega (arith, same, ap count_done held, k.among);
+    }
 
-doing : (table : Table) (s : StreamState) (t : Tale) (act : StreamAct Octets) → Told table s act → Emits s t → Doing t → Doing (tale_after t act)
-doing table s t (Work (seen.Done kind)) rule e k = record {
-  answered = subst (λ z. count_done (t.finished ++ z ∷ []) ≤ t.story.answered) (sym rule.2) (done_next s t rule.0 rule.1 e k);
+no_more_done : (ready : List (Request Octets)) (n : ℕ) → n ≤ responses_done ready n
+no_more_done ready n = go (nat_eq n 0) refl
+  where
+    go : (b : Bool) → nat_eq n 0 ≡ b → n ≤ cond b 0 (count_reads ready + n)
+    go true e = let none : n ≡ 0 = grind (arith, nat_tests) in omega (arith, none)
+    go false e = omega arith
+
+-- before the stream is open nothing is finished
+unfinished : (s : StreamState) (t : Tale) → is_open s.start ≡ false → Emits s t → Doing t → count_done t.finished ≡ 0
+unfinished s t closed e k =
+    let unready : ready_in s.start ≡ [] = closed_ready s.start closed in
+    let gone : e.left ≡ [] = elim e.spoken [ inl none ↦ none | inr all ↦ all.1 ∙ unready ] in
+    let nothing : count_last (e.segments ++ farewells t.story.farewell) ≡ 0 = ap count_last (e.parts.shut closed).none in
+    let whole : length e.counts.first ≡ 0 = omega (arith, nothing, count_last-append e.segments (farewells t.story.farewell), e.whole, ap length gone, ap length unready, e.counts.lasts) in
+    omega (arith, k.answered, no_more_done (ready_of t.story) (count_done t.finished), (unready_are unready gone e.reads).1, e.counts.some, ap count_reads (no_messages e.counts.first whole))
+  where
+    no_messages : (xs : List (Request Octets)) → length xs ≡ 0 → xs ≡ []
+    no_messages [] h = refl
+    no_messages (x ∷ xs) h = absurd (omega (arith, h))
+
+doing : (table : Table) (s : StreamState) (t : Tale) (act : StreamAct Octets) → Told table s act → Track s t → Emits s t → Doing t → Doing (tale_after t act)
+doing table s t (Work (seen.Done kind)) rule track e k = record {
+  answered = subst (λ z. responses_done (ready_of t.story) (count_done (t.finished ++ z ∷ [])) ≤ t.story.answered) (sym rule.2) (done_next s t rule.0 rule.1 track.begins.start e k);
   among = omega (arith, count_done-append t.finished (kind ∷ []), count_done-append t.handed (kind ∷ []), k.among);
 }
-doing table s t (Work (seen.Flushed kind)) rule e k = record {
-  answered = subst (λ (z : List Kind). count_done z ≤ t.story.answered) (sym (append-nil t.finished)) k.answered;
+doing table s t (Work (seen.Flushed kind)) rule track e k = record {
+  answered = subst (λ (z : List Kind). responses_done (ready_of t.story) (count_done z) ≤ t.story.answered) (sym (append-nil t.finished)) k.answered;
   among = omega (arith, ap count_done (append-nil t.finished), count_done-append t.handed (kind ∷ []), k.among);
 }
-doing table s t (Emit shown) rule e k = quiet_doing t (Emit shown) refl refl (omega (arith, (shown_stays t.story shown).answered)) k
-doing table s t (Recv len None) rule e k = quiet_doing t (Recv len None) refl refl (omega arith) k
-doing table s t (Recv len (Some refusal)) rule e k = quiet_doing t (Recv len (Some refusal)) refl refl (omega arith) k
-doing table s t (Post m None) rule e k = quiet_doing t (Post m None) refl refl (omega arith) k
-doing table s t (Post m (Some refusal)) rule e k = quiet_doing t (Post m (Some refusal)) refl refl (omega arith) k
-doing table s t (Deliver from number octets Kept) rule e k = quiet_doing t (Deliver from number octets Kept) refl refl (omega arith) k
-doing table s t (Deliver from number octets Dropped) rule e k = quiet_doing t (Deliver from number octets Dropped) refl refl (omega arith) k
-doing table s t (Raw number octets Kept) rule e k = quiet_doing t (Raw number octets Kept) refl refl (omega arith) k
-doing table s t (Raw number octets Dropped) rule e k = quiet_doing t (Raw number octets Dropped) refl refl (omega arith) k
-doing table s t (First number None) rule e k = quiet_doing t (First number None) refl refl (omega arith) k
-doing table s t (Mulpdu size None) rule e k = quiet_doing t (Mulpdu size None) refl refl (omega arith) k
-doing table s t (First number (Some refusal)) rule e k = quiet_doing t (First number (Some refusal)) refl refl (omega arith) k
-doing table s t (Mulpdu size (Some refusal)) rule e k = quiet_doing t (Mulpdu size (Some refusal)) refl refl (omega arith) k
-doing table s t (Accept private (Ok agreed)) rule e k = quiet_doing t (Accept private (Ok agreed)) refl refl (omega arith) k
-doing table s t (Accept private (Err refusal)) rule e k = quiet_doing t (Accept private (Err refusal)) refl refl (omega arith) k
-doing table s t (Reject private None) rule e k = quiet_doing t (Reject private None) refl refl (omega arith) k
-doing table s t (Reject private (Some refusal)) rule e k = quiet_doing t (Reject private (Some refusal)) refl refl (omega arith) k
-doing table s t Break rule e k = quiet_doing t Break refl refl (omega arith) k
-doing table s t (Work (seen.FlushedRecv octets)) rule e k = quiet_doing t (Work (seen.FlushedRecv octets)) refl refl (omega arith) k
-doing table s t (Work (seen.Asked word private)) rule e k = quiet_doing t (Work (seen.Asked word private)) refl refl (omega arith) k
-doing table s t (Work (seen.Opened agreed word private)) rule e k = quiet_doing t (Work (seen.Opened agreed word private)) refl refl (omega arith) k
-doing table s t (Work (seen.Closed fault)) rule e k = quiet_doing t (Work (seen.Closed fault)) refl refl (omega arith) k
-doing table s t (Work (seen.Placed right stag to octets)) rule e k = quiet_doing t (Work (seen.Placed right stag to octets)) refl refl (omega arith) k
-doing table s t (Work (seen.Tried place)) rule e k = quiet_doing t (Work (seen.Tried place)) refl refl (omega arith) k
-doing table s t (Work (seen.Buffered msn mo len)) rule e k = quiet_doing t (Work (seen.Buffered msn mo len)) refl refl (omega arith) k
-doing table s t (Work (seen.Requested size stag to)) rule e k = quiet_doing t (Work (seen.Requested size stag to)) refl refl (omega arith) k
-doing table s t (Work seen.Passed) rule e k = quiet_doing t (Work seen.Passed) refl refl (omega arith) k
-doing table s t (Work (seen.Received octets solicited invalidate)) rule e k = quiet_doing t (Work (seen.Received octets solicited invalidate)) refl refl (omega arith) k
-doing table s t (Work (seen.Terminated fault)) rule e k = quiet_doing t (Work (seen.Terminated fault)) refl refl (omega arith) k
-doing table s t (Work (seen.Fault fault)) rule e k = quiet_doing t (Work (seen.Fault fault)) refl refl (omega arith) k
-doing table s t (Work seen.Idle) rule e k = quiet_doing t (Work seen.Idle) refl refl (omega arith) k
+doing table s t (Emit shown) rule track e k = quiet_doing t (Emit shown) refl refl (inl (ap ready_in (shown_stays t.story shown).start)) (omega (arith, (shown_stays t.story shown).answered)) k
+doing table s t (Recv len None) rule track e k = quiet_doing t (Recv len None) refl refl (inl refl) (omega arith) k
+doing table s t (Recv len (Some refusal)) rule track e k = quiet_doing t (Recv len (Some refusal)) refl refl (inl refl) (omega arith) k
+doing table s t (Post m None) rule track e k = quiet_doing t (Post m None) refl refl (inl refl) (omega arith) k
+doing table s t (Post m (Some refusal)) rule track e k = quiet_doing t (Post m (Some refusal)) refl refl (inl refl) (omega arith) k
+doing table s t (Deliver from number octets Kept) rule track e k = quiet_doing t (Deliver from number octets Kept) refl refl (inl refl) (omega arith) k
+doing table s t (Deliver from number octets Dropped) rule track e k = quiet_doing t (Deliver from number octets Dropped) refl refl (inl refl) (omega arith) k
+doing table s t (Raw number octets Kept) rule track e k = quiet_doing t (Raw number octets Kept) refl refl (inl refl) (omega arith) k
+doing table s t (Raw number octets Dropped) rule track e k = quiet_doing t (Raw number octets Dropped) refl refl (inl refl) (omega arith) k
+doing table s t (First number None) rule track e k = quiet_doing t (First number None) refl refl (inl refl) (omega arith) k
+doing table s t (Mulpdu size None) rule track e k = quiet_doing t (Mulpdu size None) refl refl (inl refl) (omega arith) k
+doing table s t (First number (Some refusal)) rule track e k = quiet_doing t (First number (Some refusal)) refl refl (inl refl) (omega arith) k
+doing table s t (Mulpdu size (Some refusal)) rule track e k = quiet_doing t (Mulpdu size (Some refusal)) refl refl (inl refl) (omega arith) k
+doing table s t (Accept private (Ok agreed)) rule track e k = quiet_doing t (Accept private (Ok agreed)) refl refl (inr (unfinished s t (unanswered_shut s (may s (accepting s (private_data private).items agreed rule))) e k)) (omega arith) k
+doing table s t (Accept private (Err refusal)) rule track e k = quiet_doing t (Accept private (Err refusal)) refl refl (inl refl) (omega arith) k
+doing table s t (Reject private None) rule track e k = quiet_doing t (Reject private None) refl refl (inr (unfinished s t (unanswered_shut s (may s (refusing s (private_data private).items rule))) e k)) (omega arith) k
+doing table s t (Reject private (Some refusal)) rule track e k = quiet_doing t (Reject private (Some refusal)) refl refl (inl refl) (omega arith) k
+doing table s t Break rule track e k = quiet_doing t Break refl refl (inl refl) (omega arith) k
+doing table s t (Work (seen.FlushedRecv octets)) rule track e k = quiet_doing t (Work (seen.FlushedRecv octets)) refl refl (inl refl) (omega arith) k
+doing table s t (Work (seen.Asked word private)) rule track e k = quiet_doing t (Work (seen.Asked word private)) refl refl (inr (unfinished s t (ap is_open rule.0.is) e k)) (omega arith) k
+doing table s t (Work (seen.Opened agreed word private)) rule track e k = quiet_doing t (Work (seen.Opened agreed word private)) refl refl (inr (unfinished s t (ap is_open rule.0.hears_it.is) e k)) (omega arith) k
+doing table s t (Work (seen.Closed fault)) rule track e k = quiet_doing t (Work (seen.Closed fault)) refl refl (inr (unfinished s t (ap is_open rule.is) e k)) (omega arith) k
+doing table s t (Work (seen.Placed right stag to octets)) rule track e k = quiet_doing t (Work (seen.Placed right stag to octets)) refl refl (inl refl) (omega arith) k
+doing table s t (Work (seen.Tried place)) rule track e k = quiet_doing t (Work (seen.Tried place)) refl refl (inl refl) (omega arith) k
+doing table s t (Work (seen.Buffered msn mo len)) rule track e k = quiet_doing t (Work (seen.Buffered msn mo len)) refl refl (inl refl) (omega arith) k
+doing table s t (Work (seen.Requested size stag to)) rule track e k = quiet_doing t (Work (seen.Requested size stag to)) refl refl (inl refl) (omega arith) k
+doing table s t (Work seen.Passed) rule track e k = quiet_doing t (Work seen.Passed) refl refl (inl refl) (omega arith) k
+doing table s t (Work (seen.Received octets solicited invalidate)) rule track e k = quiet_doing t (Work (seen.Received octets solicited invalidate)) refl refl (inl refl) (omega arith) k
+doing table s t (Work (seen.Terminated fault)) rule track e k = quiet_doing t (Work (seen.Terminated fault)) refl refl (inl refl) (omega arith) k
+doing table s t (Work (seen.Fault fault)) (inl m) track e k = quiet_doing t (Work (seen.Fault fault)) refl refl (inr (unfinished s t (ap is_open m.hears_it.is) e k)) (omega arith) k
+doing table s t (Work (seen.Fault fault)) (inr rule) track e k = quiet_doing t (Work (seen.Fault fault)) refl refl (inl (ap ready_in (heard_open t.story.start (in_order t.story.came) (ap is_open track.begins.start ∙ (fault_runs table s fault rule).started)))) (omega arith) k
+doing table s t (Work seen.Idle) rule track e k = quiet_doing t (Work seen.Idle) refl refl (inl refl) (omega arith) k
 
 pub owning : (o : Opening) (table : Table) (c : Connected) (t : Tale) (act : StreamAct Octets) → StreamRule table c.stream act → Own o c t → Own o (record { stream = after_act c.stream act; wire = c.wire ++ sent_by act }) (tale_after t act)
 owning o table c t act given own =
@@ -1845,7 +2218,7 @@ owning o table c t act given own =
       numbered = knows_numbers c.stream t act own.numbered;
       starts = starting o table c.stream act rule own.starts;
       emits = emitting table c.stream t act rule own.sent own.track own.emits;
-      doing = doing table c.stream t act rule own.emits own.doing;
+      doing = doing table c.stream t act rule own.track own.emits own.doing;
       track = tracking table c.stream t act rule own.emits.asks.reads (on_any (deed act).coming own.numbered.first) own.track;
       ended = ended_is table c.stream act rule ∙ ap (λ b. ended_after b act) own.ended;
       paid = paying table c.stream t act rule own.track t.acts (ended_is table c.stream act rule) own.paid;

@@ -28,7 +28,7 @@ use Rattle.iw_fpdu.proofs.Follows.{frames_follow}
 use Rattle.iw_stream.specs.Frames.{Frame, segment_in, record_of, placed as placed_of}
 use Rattle.iw_stream.specs.Starting.{is_open, awaits_frame, expecting, first_place_in, heard}
 use Rattle.iw_laws.proofs.Rooms.{heard_open}
-use Rattle.iw_stream.specs.Stream.{StreamState, Due, StartUp, LastWord, Response, NextPart, NoneDue, ended, due, place_of, left_out}
+use Rattle.iw_stream.specs.Stream.{StreamState, Due, StartUp, LastWord, Response, NextPart, NoneDue, ended, due, place_of, left_out, Ready}
 use Rattle.iw_stream.specs.Work.{inbox, scene, early_frame}
 use Rattle.iw_stream.proofs.Fronts.{start_near}
 use Rattle.iw_locate.specs.declared.judged.State.{State}
@@ -127,6 +127,7 @@ shown_few s (shows.Frame from octets) = go (due s)
     go StartUp = same_charge s (left_frame s StartUp) refl refl refl refl
     go (LastWord payload) = same_charge s (left_frame s (LastWord payload)) refl refl refl refl
     go (NextPart part) = same_charge s (left_frame s (NextPart part)) refl refl refl refl
+    go (Ready rtr) = same_charge s (left_frame s (Ready rtr)) refl refl refl refl
     go (Response part) = same_charge s s refl refl refl refl
     go NoneDue = same_charge s s refl refl refl refl
 shown_few s (shows.Fetched from frame stag to octets) = same_charge s (after_shown s (shows.Fetched from frame stag to octets)) refl refl refl refl

@@ -17,11 +17,11 @@ use Rattle.iw_queues.specs.declared.request.Request.TheVariants.{Message as Post
 use Rattle.iw_queues.specs.Joined.{IsPrefixOf, Cell, count_writes}
 use Rattle.iw_laws.specs.Words.{Octets, sunk}
 use Rattle.iw_laws.specs.Turns.{Answer, carries_response}
-use Rattle.iw_laws.specs.Sends.{asked_of, farewells}
+use Rattle.iw_laws.specs.Sends.{asked_of, farewells, ready_of}
 use Rattle.std.proofs.lemmas.Bool.{false≢true}
 use Rattle.iw_laws.specs.Rules.{FitsPosted}
 use Rattle.iw_laws.proofs.States.{Connected}
-use Rattle.iw_laws.specs.Faithful.{laid, responses, count_done, reads_among, CoversReads, AnswersReads}
+use Rattle.iw_laws.specs.Faithful.{laid, responses, responses_done, count_done, reads_among, CoversReads, AnswersReads}
 use Rattle.iw_laws.proofs.Lists.{Each, each-first, each-both}
 use Rattle.iw_laws.proofs.Tales.{Tale}
 use Rattle.iw_laws.proofs.Nexts.{Front, fore, segment_in, segment_at}
@@ -30,7 +30,8 @@ use Rattle.iw_laws.proofs.Sending.{IsSendable}
 use Rattle.iw_laws.proofs.Tracks.{Track}
 use Rattle.iw_laws.proofs.Owns.{Emits, out_of}
 use Rattle.iw_laws.proofs.Heard.{IsHeard}
-use Rattle.iw_laws.proofs.Responses.{AnswerFits, SinkFits, sent_responses, sent_ended, sent_before, sent_requests, sent_fits}
+use Rattle.iw_laws.proofs.Responses.{AnswerFits, SinkFits, sent_responses, sent_ended, sent_before, sent_requests, sent_fits, ready_fit}
+use Rattle.iw_laws.proofs.Ready.{ready_in}
 use Rattle.iw_stream.specs.declared.judging.PlacedFrame.{PlacedFrame}
 use Rattle.iw_stream.specs.Work.{scene}
 use Rattle.iw_laws.proofs.Judged.{Adds, segments_early}
@@ -71,8 +72,8 @@ farewell_fits None = tt
 farewell_fits (Some payload) = ((λ h. absurd (false≢true h)), tt)
 
 -- what an end was asked for is what the other end posted, as far as it was read
-asked_first : (c : Connected) (t : Tale) (d : Connected) (u : Tale) (e : Emits d.stream u) (k : Track c.stream t) → IsHeard d u c t (out_of d.stream u e) k → IsOf t.story.came u.sent → IsPrefixOf (asked_of t.story) (reads_among u.posted)
-asked_first c t d u e k heard of =
+asked_first : (c : Connected) (t : Tale) (d : Connected) (u : Tale) (e : Emits d.stream u) (g : Track d.stream u) (k : Track c.stream t) → IsHeard d u c t (out_of d.stream u e) k → IsOf t.story.came u.sent → IsPrefixOf (asked_of t.story) (reads_among (ready_of u.story ++ u.posted))
+asked_first c t d u e g k heard of =
     let x = delivered d u c t e k heard of in
     let a = sent_requests d.stream u e in (
       requests_in x.0 ++ a.rest,
@@ -80,7 +81,7 @@ asked_first c t d u e k heard of =
           ∙ sym (append_assoc (requests_in k.segments) (requests_in x.0) a.rest)
           ∙ ap (λ z. z ++ a.rest) (sym (requests-append k.segments x.0) ∙ ap requests_in (sym x.1) ∙ requests-reread (out_of d.stream u e)
           ∙ requests-append e.segments (farewells u.story.farewell) ∙ ap (λ z. requests_in e.segments ++ z) (no_requests u.story.farewell) ∙ append-nil (requests_in e.segments))
-          ∙ a.are,
+          ∙ a.are ∙ ap (λ z. reads_among (ready_in z ++ u.posted)) (sym g.begins.start),
     )
 
 -- so what it answers is read as it was written
@@ -125,25 +126,25 @@ most c t d u e k heard of same cell =
     go (Some p) is None whole = omega (arith, fits c t d u e k heard of (count_responses cell) counts)
     go (Some p) is (Some (frame, left)) whole = shown (Some p) is (segment_in frame) frame left whole refl
 
-reads_covered : (c : Connected) (t : Tale) (d : Connected) (u : Tale) (e : Emits c.stream t) (k : Track d.stream u) → count_done u.finished ≤ u.story.answered → IsHeard c t d u (out_of c.stream t e) k → IsOf u.story.came t.sent
-    → map reread (out_of c.stream t e) ≡ out_of c.stream t e → (cell : Cell) → CoversReads t.story (sunk u.placings) (count_done u.finished) cell
-reads_covered c t d u e k few heard of same cell =
+reads_covered : (c : Connected) (t : Tale) (d : Connected) (u : Tale) (e : Emits c.stream t) (k : Track d.stream u) (n : ℕ) → n ≤ u.story.answered → IsHeard c t d u (out_of c.stream t e) k → IsOf u.story.came t.sent
+    → map reread (out_of c.stream t e) ≡ out_of c.stream t e → (cell : Cell) → CoversReads t.story (sunk u.placings) n cell
+reads_covered c t d u e k n few heard of same cell =
     let x = delivered c t d u e k heard of in
     let parted : List (Segment Octets) = farewells t.story.farewell in
     let is : out_of c.stream t e ≡ k.segments ++ x.0 = sym same ∙ x.1 in
-    let done : count_done u.finished ≤ count_ended k.segments = omega (arith, few, k.tells.answered_are) in
+    let done : n ≤ count_ended k.segments = omega (arith, few, k.tells.answered_are) in
     record {
       answered = omega (arith, done, sent_ended c.stream t e, ended-append e.segments parted, no_ended t.story.farewell, ap count_ended is, ended-append k.segments x.0);
-      before = omega (arith, fewer_laid cell (count_done u.finished) (count_ended k.segments) t.story.answers done, sent_before cell c.stream t e k.segments x.0 is, k.early.sunk_are cell, k.joins.sunk_are cell);
+      before = omega (arith, fewer_laid cell n (count_ended k.segments) t.story.answers done, sent_before cell c.stream t e k.segments x.0 is, k.early.sunk_are cell, k.joins.sunk_are cell);
       most = most c t d u e k heard of same cell;
     }
 
 -- what an end has answered, and the other placed
-pub reads_answered : (c : Connected) (t : Tale) (d : Connected) (u : Tale) (e : Emits c.stream t) (i : Track c.stream t) (g : Emits d.stream u) (k : Track d.stream u) → count_done u.finished ≤ u.story.answered
-    → IsHeard c t d u (out_of c.stream t e) k → IsHeard d u c t (out_of d.stream u g) i → IsOf u.story.came t.sent → IsOf t.story.came u.sent → AnswersReads t.story u.posted (sunk u.placings) (count_done u.finished)
+pub reads_answered : (c : Connected) (t : Tale) (d : Connected) (u : Tale) (e : Emits c.stream t) (i : Track c.stream t) (g : Emits d.stream u) (k : Track d.stream u) → responses_done (ready_of u.story) (count_done u.finished) ≤ u.story.answered
+    → IsHeard c t d u (out_of c.stream t e) k → IsHeard d u c t (out_of d.stream u g) i → IsOf u.story.came t.sent → IsOf t.story.came u.sent → AnswersReads t.story (ready_of u.story) u.posted (sunk u.placings) (count_done u.finished)
 reads_answered c t d u e i g k few there back out home =
-    let asked : IsPrefixOf (asked_of t.story) (reads_among u.posted) = asked_first c t d u g i back home in
-    let fits : Each SinkFits (asked_of t.story) = each-first SinkFits (asked_of t.story) asked.0 (subst (Each SinkFits) (sym asked.1) (sinks_fit u.posted g.fit)) in
+    let asked : IsPrefixOf (asked_of t.story) (reads_among (ready_of u.story ++ u.posted)) = asked_first c t d u g k i back home in
+    let fits : Each SinkFits (asked_of t.story) = each-first SinkFits (asked_of t.story) asked.0 (subst (Each SinkFits) (sym asked.1) (sinks_fit (ready_of u.story ++ u.posted) (ready_fit u.story.start u.posted g.fit))) in
     let same : map reread (out_of c.stream t e) ≡ out_of c.stream t e =
     all_same (out_of c.stream t e) e.good (each-both AnswerFits e.segments (farewells t.story.farewell) (sent_fits c.stream t e fits) (farewell_fits t.story.farewell)) in
-    record { asked = asked; covers = reads_covered c t d u e k few there out same }
+    record { asked = asked; covers = reads_covered c t d u e k (responses_done (ready_of u.story) (count_done u.finished)) few there out same }

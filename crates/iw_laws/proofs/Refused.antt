@@ -44,7 +44,9 @@ use Rattle.iw_events.specs.declared.act.Shown.TheVariants as shows
 use Rattle.iw_laws.specs.Rest.{Over, AwaitsFrame, AwaitsAnswer, NoFrame}
 use Rattle.iw_laws.specs.Turns.{is_last}
 use Rattle.iw_laws.specs.Merged.{Post}
-use Rattle.iw_laws.specs.Sends.{terminate_segment, IsAnswered, IsSentMessage}
+use Rattle.iw_laws.specs.Sends.{terminate_segment, IsAnswered, IsSentMessage, ready_of, count_reads}
+use Rattle.iw_laws.proofs.Counts.{count_reads-append}
+use Rattle.iw_laws.proofs.Ready.{ready_in}
 use Rattle.iw_laws.specs.WrongRuns.{a, b, on, raw, works, places, registers, emits, send_frame, reads_past_fault, reads_unopened, rests_with_reply, never_finished, finished_unsent, finished_as_write, sends_too_large, cut_frame, cuts_short, sends_elsewhere, sends_past_end, delivers_others, keeps_past_end, accepts_unasked, answers_stag_again, fetches_last, fetches_invalid, request_frame, read_one, reads_unanswered}
 use Rattle.iw_laws.specs.WrongRuns.{RefusesFramesBehindFault, RefusesFramesUnopened, RefusesRestWithReply, RefusesNeverFinished, RefusesFinishedUnsent, RefusesFinishedAsWrite, RefusesTooLarge, RefusesCutShort, RefusesElsewhere, RefusesBehindEnd, RefusesOtherOctets, RefusesKeptBehindEnd, RefusesUnaskedAccept, RefusesWrongRefusal, RefusesSameStag, RefusesFetchInvalid, RefusesReadUnanswered}
 use Rattle.iw_laws.proofs.Messages.{nothing_sent}
@@ -79,7 +81,7 @@ refuses_rest_with_reply h = elim (h (take 3 rests_with_reply) (a (works seen.Idl
 ]
 
 -- the frame of the Send of one octet
-send_one : Segment Octets
+pub send_one : Segment Octets
 send_one = send_segment 1 false None 0 true (0x68 ∷ [])
 
 send_header : Octets
@@ -89,7 +91,11 @@ send_octets : segment_octets send_one ≡ send_header
 unfolding send_one send_header segment_octets untagged_octets
 send_octets = refl
 
-framed : sequence plain 0 (segment_octets send_one ∷ []) ≡ send_frame
+pub send_size : length (segment_octets send_one) ≡ 19
+unfolding send_header
+send_size = ap length send_octets
+
+pub framed : sequence plain 0 (segment_octets send_one ∷ []) ≡ send_frame
 unfolding send_header sequence data_place data_index in_marker place_after marker_value span_start octet_at laid
 framed =
     ap (λ u. frame_octets plain 0 u ++ []) send_octets
@@ -104,7 +110,7 @@ sent_whole t start = record {
   kind_is = refl;
   sent = record {
     items = Post (Posted (messages.Send (0x68 ∷ []) false None)) ∷ [];
-    posts = refl;
+    posts = ap (λ z. ready_in z ++ Posted (messages.Send (0x68 ∷ []) false None) ∷ []) (sym start);
     first = send_frame;
     frames = record { segments = send_one ∷ []; carry = (send_one ∷ [], [], refl, (omega arith, refl), refl); framed = subst (λ z. send_frame ≡ own_frame z ++ sequence (sending z) 0 (map segment_octets (send_one ∷ []))) (sym start) (sym framed) };
     begins = ([], refl);
@@ -266,8 +272,8 @@ unfolding acts stream_acts openings story posted handed_kinds numbers_ahead plac
 refuses_read_unanswered h =
     let t : Story = story_of 0 (acts A (take 4 reads_unanswered)) in
     let r = h (take 4 reads_unanswered) (a (works (seen.Done kinds.Read))) [] refl in
-    let answered : 1 ≤ t.answered = subst (IsAnswered t (Read read_one ∷ [])) (sym (same_Some _ _ r.is)) r.answered in
-    omega (arith, answered, (shown_stays (story_of 0 (acts A (take 3 reads_unanswered))) (shows.Frame 0 request_frame)).answered)
+    let answered : count_reads (ready_of t ++ Read read_one ∷ []) ≤ t.answered = subst (IsAnswered t (Read read_one ∷ [])) (sym (same_Some _ _ r.is)) r.answered in
+    omega (arith, answered, count_reads-append (ready_of t) (Read read_one ∷ []), (shown_stays (story_of 0 (acts A (take 3 reads_unanswered))) (shows.Frame 0 request_frame)).answered)
 
 pub refuses_placed_unwritable : RefusesPlacedUnwritable
 unfolding acts stream_acts openings table_after empty

@@ -6,7 +6,7 @@ use Rattle.iw_octets.specs.declared.stag.Stag.{Stag}
 use Rattle.iw_memory.specs.Table.{empty}
 use Rattle.iw_memory.specs.declared.refusal.RegisterRefusal.{RegisterRefusal}
 use Rattle.std.specs.Prelude.{Result}
-use Rattle.iw_endpoint.specs.Endpoint.{no_streams}
+use Rattle.iw_endpoint.specs.Endpoint.{no_streams, no_closed}
 use Rattle.iw_endpoint.specs.Isolation.{OpensOwn}
 use Rattle.iw_stream.specs.declared.answer.RecvRefusal.TheVariants.{Full}
 use Rattle.iw_events.specs.declared.call.End.TheVariants.{B}
@@ -29,7 +29,7 @@ slot_of (Ok stag) = stag.slot
 slot_of (Err refusal) = 0
 
 pub refuses_numbered_over_all : RefusesNumberedOverAll
-unfolding acts empty no_streams
+unfolding acts empty no_streams no_closed
 refuses_numbered_over_all h = let no : 1 ≡ 0 = ap slot_of (h numbers_over_all [] (sym (append-nil numbers_over_all)) B whose numbers_own 2).1.1.0 in omega (arith, no)
 
 full_own : OpensOwn whose (calls_made (acts B full_for_all))
@@ -41,5 +41,5 @@ full_own = (λ n d h. absurd h, (λ n d h. cc, (λ n d h. absurd h, (λ n d h. c
     posted (suc k) = (λ n d h. absurd h, posted k)
 
 pub refuses_full_for_all : RefusesFullForAll
-unfolding acts empty no_streams
+unfolding acts empty no_streams no_closed
 refuses_full_for_all h = none-some _ (sym (h full_for_all [] (sym (append-nil full_for_all)) B whose full_own 2).1.1.0.1)

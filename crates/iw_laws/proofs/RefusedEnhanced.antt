@@ -1,20 +1,12 @@
 -- Each wrong run by revision 2 of MPA breaks its law.
 use Rattle.iw_ranges.specs.Nearest.{numbers_ahead, place_near, before_start}
-use Rattle.std.proofs.Common.{◌≡◌, ℕ, ◌+◌, ◌-◌, ◌%◌, ◌≤◌, [], ◌∷◌, ◌++◌, length, take, cond, nat_lt, Some, None, Ok, Err, true, false, refl, sym, ap, ◌∙◌, arith, inl, inr}
+use Rattle.std.proofs.Common.{◌≡◌, [], take, None, Ok, Err, refl, sym, ap, ◌∙◌, arith, inl, inr}
 use Rattle.std.specs.Prelude.{Result}
-use Rattle.std.specs.Option.{option_map_or}
 use Rattle.std.proofs.lemmas.Bool.{false≢true}
-use Rattle.std.proofs.lemmas.Bool.Decides.{nat_tests}
-use Rattle.std.proofs.lemmas.List.{append-nil, length_push}
+use Rattle.std.proofs.lemmas.List.{append-nil}
 use Rattle.std.proofs.lemmas.Option.{none-some}
-use Rattle.iw_octets.specs.declared.segment.Segment.{Segment}
-use Rattle.iw_octets.specs.Segment.{segment_octets, FitsSegment, read_segment}
 use Rattle.iw_memory.specs.Table.{empty}
 use Rattle.iw_ranges.specs.Arrived.{taken_in, held}
-use Rattle.iw_fpdu.specs.Frame.{max_sent, frame_octets}
-use Rattle.iw_fpdu.specs.Sequence.{Carried, intact, first_frame}
-use Rattle.iw_fpdu.proofs.Sequences.{written_is_first}
-use Rattle.iw_queues.specs.Segments.{request_segment}
 use Rattle.iw_startup.specs.declared.config.Agreed.{Agreed}
 use Rattle.iw_startup.specs.Frame.{start_frame}
 use Rattle.iw_startup.specs.Peer.{progress_of, frame_end as startup_end, frame_part, fixed_fault}
@@ -25,9 +17,9 @@ use Rattle.iw_stream.specs.Ending.{last_word}
 use Rattle.iw_stream.specs.Starting.{plain, sending, first_place_out, most_reads_in}
 use Rattle.iw_events.specs.declared.call.End.TheVariants.{A}
 use Rattle.iw_events.specs.declared.act.Shown.TheVariants as shows
-use Rattle.iw_laws.specs.Words.{Octets, acts, stream_acts, openings, ended, posted, handed_kinds, table_after}
-use Rattle.iw_laws.specs.Turns.{Story, story, story_of, segment_out, sends_segment, says_farewell, story_shown}
-use Rattle.iw_laws.specs.WrongRuns.{a, b, read_one, request_frame}
+use Rattle.iw_laws.specs.Words.{acts, stream_acts, openings, ended, posted, handed_kinds, table_after}
+use Rattle.iw_laws.specs.Turns.{Story, story, story_of}
+use Rattle.iw_laws.specs.WrongRuns.{a, b, request_frame}
 use Rattle.iw_laws.specs.EnhancedRuns.{agreed_on, posts_read, posts_unread, reads_past_ord, sees_opened, opens_unfit, ends_fit, faults_fit, asks_hidden, hides_word, accepts, accepts_long, opens_with, opens_long}
 use Rattle.iw_laws.specs.EnhancedRuns.{RefusesReadPosted, RefusesReadPastOrd, RefusesOpenedUnfit, RefusesFaultFit, RefusesHiddenWord, RefusesLongAnswer, RefusesLongRequest}
 use Rattle.iw_laws.proofs.Tracks.{shown_stays}

@@ -34,7 +34,7 @@ use Rattle.iw_stream.specs.Frames.{Frame, standing_at, placed, placed_at, head_i
 use Rattle.iw_stream.specs.Judging.{Standing, verdict, fault_or, or_else, turn_of, turned_by, receiving_turned}
 use Rattle.iw_stream.specs.Starting.{AtOnce, plain, awaits_frame, expecting}
 use Rattle.iw_endpoint.specs.declared.refusal.TakeRefusal.{TakeRefusal}
-use Rattle.iw_endpoint.specs.Endpoint.{no_streams, no_pools}
+use Rattle.iw_endpoint.specs.Endpoint.{no_streams, no_closed, no_pools}
 use Rattle.iw_endpoint.specs.Isolation.{OpensOwn}
 use Rattle.iw_events.specs.declared.call.End.{End}
 use Rattle.iw_events.specs.declared.call.End.TheVariants.{A, B}
@@ -164,7 +164,7 @@ unfolding acts
 foreign_own = (λ n d h. absurd h, (λ n d h. absurd h, (λ n d h. absurd h, (λ n d h. absurd h, (λ n d h. absurd h, (λ n d h. absurd h, tt))))))
 
 pub refuses_foreign_taken : RefusesForeignTaken
-unfolding acts empty no_streams no_pools
+unfolding acts empty no_streams no_closed no_pools
 refuses_foreign_taken h =
     let e : 2 ≡ 0 = ap count_taken (h takes_foreign [] (sym (append-nil takes_foreign)) B (λ n. 0) foreign_own 2).1.1.0 in
     omega (arith, e)

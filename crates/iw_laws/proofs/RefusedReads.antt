@@ -2,7 +2,7 @@
 use Rattle.iw_startup.specs.declared.config.Establishment.TheVariants as establishments
 use Rattle.iw_ranges.specs.Nearest.{numbers_ahead, place_near, before_start}
 use Rattle.std.proofs.Common.{◌≡◌, ℕ, zero, suc, ◌+◌, ◌*◌, ◌%◌, ◌-◌, ◌^◌, ◌<◌, ◌≤◌, List, [], ◌∷◌, ◌++◌, length, take, drop, map, replicate, Option, Some, None, Err, Bool, true, false, cond, refl, sym, ap, ◌∙◌, subst, arith, inl, inr}
-use Rattle.std.specs.Prelude.{fold, nat_eq, nat_lt, slice_get}
+use Rattle.std.specs.Prelude.{fold, nat_eq, nat_lt, slice_get, is_some, ◌&&◌}
 use Rattle.std.specs.Option.{option_map, option_map_or}
 use Rattle.std.proofs.lemmas.Bool.{true≢false}
 use Rattle.std.proofs.lemmas.Bool.Decides.{nat_tests}
@@ -41,7 +41,7 @@ use Rattle.iw_untagged.specs.Receiving.{Receiving}
 use Rattle.iw_stream.specs.declared.answer.Role.TheVariants.{Preset}
 use Rattle.iw_stream.specs.Frames.{Frame, standing_at, payload_of, segment_in, placed}
 use Rattle.iw_stream.specs.Judging.{Standing, response_verdict, head_verdict, verdict, segment_turn, turn_of, reads_left}
-use Rattle.iw_stream.specs.Starting.{AtOnce, plain, expecting, most_reads_in, sending, first_place_in, first_place_out}
+use Rattle.iw_stream.specs.Starting.{AtOnce, plain, expecting, most_reads_in, rtr_in, sending, first_place_in, first_place_out}
 use Rattle.iw_stream.proofs.Headers.{turn_kept, left_kept}
 use Rattle.iw_events.specs.declared.call.End.{End}
 use Rattle.iw_events.specs.declared.call.End.TheVariants.{A, B}
@@ -49,9 +49,11 @@ use Rattle.iw_events.specs.declared.act.Seen.TheVariants as seen
 use Rattle.iw_events.specs.declared.act.Shown.{Shown}
 use Rattle.iw_events.specs.declared.act.Shown.TheVariants as shows
 use Rattle.iw_laws.specs.Words.{Octets, Opening, OnSome, acts, stream_acts, openings, opening_of, posted, received, finished_kinds, handed_kinds, placings, size_set, table_after}
-use Rattle.iw_laws.specs.Turns.{Answer, in_order_point, past_last, fetches_for, Located, Story, located_of, frames_in, next_frame, next_reads, asked_in, next_asked, segment_out, read_out, sends_segment, says_farewell, story_shown, story_after, untold, story, story_of, standing, carries_response, seen_judged, seen_turned, front_verdict}
+use Rattle.iw_laws.specs.Turns.{Answer, in_order_point, past_last, fetches_for, Located, Story, located_of, frames_in, next_frame, next_reads, asked_in, next_asked, segment_out, read_out, sends_segment, sends_frame, is_rtr, says_farewell, story_shown, story_after, untold, story, story_of, standing, carries_response, seen_judged, seen_turned, front_verdict}
 use Rattle.iw_laws.specs.Merged.{response_segment}
-use Rattle.iw_laws.specs.Sends.{IsAnswered}
+use Rattle.iw_laws.specs.Sends.{IsAnswered, ready_of, count_reads}
+use Rattle.iw_laws.proofs.Counts.{count_reads-append}
+use Rattle.iw_laws.proofs.Ready.{ready_in}
 use Rattle.iw_stream.specs.Ending.{last_word}
 use Rattle.iw_queues.specs.declared.request.Request.TheVariants.{Read}
 use Rattle.iw_laws.specs.Faithful as faithful
@@ -145,11 +147,15 @@ request_framed = ap (frame_octets plain 0) request_is ∙ frame_is plain 0 reque
 -- it goes out
 asked_story : (t : Story) → t.start ≡ AtOnce plain → last_word t.ending ≡ None → story_shown t (shows.Frame 0 request_frame) ≡ sends_segment t (request_segment 1 read_one)
 asked_story t start quiet =
-    (λ i. cond (nat_lt 0 (first_place_out (start i))) t (option_map_or (says_farewell t) (quiet i) (option_map_or (sends_segment t) (segment_out t 0 request_frame) t)))
+    (λ i. cond (nat_lt 0 (first_place_out (start i))) t (option_map_or (says_farewell t) (quiet i) (option_map_or (sends_frame t (is_some (rtr_in (start i)) && nat_eq 0 (first_place_out (start i)))) (segment_out t 0 request_frame) t)))
     ∙ ap (λ o. option_map_or (sends_segment t) o t) (ap (segment_out t 0) (sym request_framed) ∙ goes_out t 0 (request_segment 1 read_one) start (omega arith) (request_fits 1 (omega arith)) (request_short 1))
 
-asked_reads : (t : Story) (msn : ℕ) → (sends_segment t (request_segment msn read_one)).reads ≡ t.reads ++ record { ticket = t.whole % 2 ^ 64; request = read_one; turned = 0 } ∷ []
-asked_reads t msn = ap (λ o. option_map_or (asked_for t.reads (t.whole % 2 ^ 64)) o t.reads) (request_out msn)
+asked_reads : (t : Story) (msn : ℕ) → (sends_segment t (request_segment msn read_one)).reads ≡ t.reads ++ record { ticket = Some (t.whole % 2 ^ 64); request = read_one; turned = 0 } ∷ []
+asked_reads t msn = ap (λ o. option_map_or (asked_for t.reads (Some (t.whole % 2 ^ 64))) o t.reads) (request_out msn)
+
+asked_more : (t : Story) (msn : ℕ) (ready : Bool) → length (sends_frame t ready (request_segment msn read_one)).reads ≡ length t.reads + 1
+asked_more t msn false = ap length (asked_reads t msn) ∙ length_push t.reads (record { ticket = Some (t.whole % 2 ^ 64); request = read_one; turned = 0 })
+asked_more t msn true = ap (λ o. length (option_map_or (asked_for t.reads None) o t.reads)) (request_out msn) ∙ length_push t.reads (record { ticket = None; request = read_one; turned = 0 })
 
 -- it goes out behind a start-up frame
 pub asked_out : (t : Story) (n : ℕ) → sending t.start ≡ plain → first_place_out t.start ≡ n → last_word t.ending ≡ None → length (story_shown t (shows.Frame n request_frame)).reads ≡ length t.reads + 1
@@ -165,11 +171,11 @@ asked_out t n sends first quiet =
     ∙ (λ i. cond (never i) None (option_map_or (λ (first : Carried × Octets). read_segment first.0.ulpdu) (first_frame plain (place i) octets) None))
     ∙ ap (λ o. option_map_or (λ (first : Carried × Octets). read_segment first.0.ulpdu) o None) whole
     ∙ read_segment-spelled segment (request_fits 1 (omega arith)) in
-    let story : story_shown t (shows.Frame n request_frame) ≡ sends_segment t segment =
-    (λ i. cond (nat_lt n (first i)) t (option_map_or (says_farewell t) (quiet i) (option_map_or (sends_segment t) (segment_out t n request_frame) t)))
-    ∙ ap (λ b. cond b t (option_map_or (sends_segment t) (segment_out t n request_frame) t)) never
-    ∙ ap (λ o. option_map_or (sends_segment t) o t) (ap (segment_out t n) (sym request_framed) ∙ out) in
-    ap (λ (z : Story). length z.reads) story ∙ ap length (asked_reads t 1) ∙ length_push t.reads (record { ticket = t.whole % 2 ^ 64; request = read_one; turned = 0 })
+    let story : story_shown t (shows.Frame n request_frame) ≡ sends_frame t (is_rtr t n) segment =
+    (λ i. cond (nat_lt n (first i)) t (option_map_or (says_farewell t) (quiet i) (option_map_or (sends_frame t (is_rtr t n)) (segment_out t n request_frame) t)))
+    ∙ ap (λ b. cond b t (option_map_or (sends_frame t (is_rtr t n)) (segment_out t n request_frame) t)) never
+    ∙ ap (λ o. option_map_or (sends_frame t (is_rtr t n)) o t) (ap (segment_out t n) (sym request_framed) ∙ out) in
+    ap (λ (z : Story). length z.reads) story ∙ asked_more t 1 (is_rtr t n)
 
 -- ---- sixteen Reads, and one more
 
@@ -180,9 +186,10 @@ out_reads (suc n) before t start quiet few =
     let segment : Segment Octets = request_segment (before + 1) read_one in
     let out = goes_out t (52 * before) segment start (omega arith) (request_fits (before + 1) (omega (arith, few))) (request_short (before + 1)) in
     let rest = out_reads n (before + 1) (sends_segment t segment) start quiet (omega (arith, few)) in
-    let one : length (sends_segment t segment).reads ≡ length t.reads + 1 = ap length (asked_reads t (before + 1)) ∙ length_push t.reads (record { ticket = t.whole % 2 ^ 64; request = read_one; turned = 0 }) in
+    let one : length (sends_segment t segment).reads ≡ length t.reads + 1 = asked_more t (before + 1) false in
     let past : nat_lt (52 * before) (first_place_out t.start) ≡ false = ap (λ z. nat_lt (52 * before) (first_place_out z)) start ∙ (let never : nat_lt (52 * before) 0 ≡ false = grind (arith, nat_tests) in never) in
-    (λ i. length (fold story_after (cond (past i) t (option_map_or (says_farewell t) (quiet i) (option_map_or (sends_segment t) (out i) t))) (stream_acts 0 (acts A (reads_out n (before + 1))))).reads) ∙ omega (arith, rest, one)
+    let unready : is_rtr t (52 * before) ≡ false = ap (λ z. is_some (rtr_in z) && nat_eq (52 * before) (first_place_out z)) start in
+    (λ i. length (fold story_after (cond (past i) t (option_map_or (says_farewell t) (quiet i) (option_map_or (sends_frame t (unready i)) (out i) t))) (stream_acts 0 (acts A (reads_out n (before + 1))))).reads) ∙ omega (arith, rest, one)
 
 -- the start-up stays
 out_starts : (n before : ℕ) (t : Story) → (fold story_after t (stream_acts 0 (acts A (reads_out n before)))).start ≡ t.start
@@ -286,7 +293,7 @@ refuses_untold_response h =
 
 -- the end that asked, behind its request
 abbrev outstanding : ℕ → List Outstanding
-outstanding ticket = record { ticket = ticket; request = read_one; turned = 0 } ∷ []
+outstanding ticket = record { ticket = Some ticket; request = read_one; turned = 0 } ∷ []
 
 long_ulpdu : Octets
 long_ulpdu = (0xc1 ∷ 0x42 ∷ 1 ∷ 0 ∷ 0 ∷ 0 ∷ []) ++ replicate 8 0 ++ five
@@ -424,9 +431,9 @@ refuses_done_by_write h =
     let t : Story = story_of 0 (acts A (take 7 done_by_write)) in
     let kept = shown_stays asks (shows.Frame 0 request_frame) in
     let beyond : Story = story_of 0 (acts A (take 8 done_by_write)) in
-    let answered : 1 ≤ beyond.answered = subst (IsAnswered beyond (Read read_one ∷ [])) (sym (same_Some _ _ r.is)) r.answered in
+    let answered : count_reads (ready_of beyond ++ Read read_one ∷ []) ≤ beyond.answered = subst (IsAnswered beyond (Read read_one ∷ [])) (sym (same_Some _ _ r.is)) r.answered in
     let left : next_reads t ≡ t.reads = leaves_reads t kept.start kept.turns (comes_first asks (shows.Frame 0 request_frame) write_frame refl refl ∙ write_came) in
-    omega (arith, answered, kept.answered, ap length left)
+    omega (arith, answered, count_reads-append (ready_of beyond) (Read read_one ∷ []), kept.answered, ap length left)
 
 -- ---- Reads of an honest stream
 
@@ -469,7 +476,14 @@ refuses_done_unplaced h =
     let r = h done_unplaced [] refl B 0 (honest done_unplaced opened calm) in
     let cell : Cell = record { stag = number_of stag; to = 0; octet = 0x0a } in
     let answers = answered_whole (story_of 0 (acts B (take 8 done_unplaced))) (takes (story_of 0 (acts B (take 8 done_unplaced))) refl refl refl request_came) refl refl in
-    omega (arith, (r.covers cell).before, ap (λ z. count_writes cell (map faithful.laid (take 1 z))) answers)
+    let asks : Story = story_of 0 (acts A (take 3 done_unplaced)) in
+    let unready : ready_of (story_of 0 (acts A done_unplaced)) ≡ [] = ap ready_in (shown_stays asks (shows.Frame 0 request_frame)).start in
+    omega (
+      arith,
+      (r.covers cell).before,
+      ap (λ z. count_writes cell (map faithful.laid (take (faithful.responses_done z 1) (story_of 0 (acts B done_unplaced)).answers))) unready,
+      ap (λ z. count_writes cell (map faithful.laid (take 1 z))) answers,
+    )
   where
     opened : (x : End) → openings 0 (acts x done_unplaced) ≡ opened_at_once ∷ []
     opened A = refl

@@ -19,8 +19,9 @@ use Rattle.iw_stream.specs.Starting.{AtOnce, plain, sending, own_frame, first_pl
 use Rattle.iw_events.specs.declared.call.End.TheVariants.{A}
 use Rattle.iw_events.specs.declared.act.Shown.TheVariants as shows
 use Rattle.iw_laws.specs.Words.{Octets, acts, stream_acts, openings, ended, sent, posted}
-use Rattle.iw_laws.specs.Turns.{Answer, Story, story, story_of, segment_out, sends_segment, says_farewell, story_shown}
+use Rattle.iw_laws.specs.Turns.{Answer, Story, story, story_of, segment_out, sends_frame, is_rtr, says_farewell, story_shown}
 use Rattle.iw_laws.specs.Merged.{Item, Post, Response, AreMerged, posts_in, answers_in}
+use Rattle.iw_laws.proofs.Ready.{ready_in}
 use Rattle.iw_laws.specs.Sends.{AreFirstFrames, AreAllFrames, asked_of, farewells, Over, Closed, Silent, AllSent, ReadWaits}
 use Rattle.iw_laws.specs.WrongRuns.{a, send_frame, sends_unposted, emits_nothing, holds_back}
 use Rattle.iw_laws.specs.WrongRuns.{RefusesUnpostedSend, RefusesHeldBack}
@@ -42,19 +43,20 @@ no_segments [] (u ∷ us) vs carry none = absurd (omega (arith, ap length carry)
 no_segments (item ∷ items) us vs carry none = absurd (omega (arith, ap length none))
 
 -- a frame that is no Terminate leaves none that went out
-no_farewell : (t : Story) (from : ℕ) (octets : Octets) → last_word t.ending ≡ None → (story_shown t (shows.Frame from octets)).farewell ≡ t.farewell
-no_farewell t from octets quiet = go (nat_lt from (first_place_out t.start)) (last_word t.ending) (segment_out t from octets) quiet
+pub no_farewell : (t : Story) (from : ℕ) (octets : Octets) → last_word t.ending ≡ None → (story_shown t (shows.Frame from octets)).farewell ≡ t.farewell
+no_farewell t from octets quiet = go (nat_lt from (first_place_out t.start)) (last_word t.ending) (segment_out t from octets) (is_rtr t from) quiet
   where
-    go : (first : Bool) (w : Option Octets) (o : Option (Segment Octets)) → w ≡ None → (cond first t (option_map_or (says_farewell t) w (option_map_or (sends_segment t) o t))).farewell ≡ t.farewell
-    go true w o h = refl
-    go false (Some payload) o h = absurd (none-some _ (sym h))
-    go false None None h = refl
-    go false None (Some segment) h = refl
+    go : (first : Bool) (w : Option Octets) (o : Option (Segment Octets)) (ready : Bool) → w ≡ None → (cond first t (option_map_or (says_farewell t) w (option_map_or (sends_frame t ready) o t))).farewell ≡ t.farewell
+    go true w o ready h = refl
+    go false (Some payload) o ready h = absurd (none-some _ (sym h))
+    go false None None ready h = refl
+    go false None (Some segment) true h = refl
+    go false None (Some segment) false h = refl
 
 -- where nothing was posted nor asked for, nothing goes out past the start-up frame
 none_go_out : (t : Story) (octets : Octets) → t.start ≡ AtOnce plain → asked_of t ≡ [] → t.farewell ≡ None → AreFirstFrames t octets [] → octets ≡ []
 none_go_out t octets start asks quiet e =
-    let none : e.begun ≡ [] = no_segments e.items e.begun e.later e.carry (no_items e.items e.posts (e.answers ∙ asks)) in
+    let none : e.begun ≡ [] = no_segments e.items e.begun e.later e.carry (no_items e.items (e.posts ∙ ap (λ z. ready_in z ++ []) start) (e.answers ∙ asks)) in
     elim e.framed [
       | inl nothing ↦ nothing.0
       | inr framed ↦ framed ∙ (λ i. own_frame (start i) ++ sequence (sending (start i)) 0 (map segment_octets (none i ++ farewells (quiet i)))) ∙ no_frames plain

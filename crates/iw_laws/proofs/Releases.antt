@@ -38,7 +38,7 @@ use Rattle.iw_stream.specs.declared.ending.Ending.TheVariants.{Over, Broken}
 use Rattle.iw_stream.specs.Frames.{Frame, EarlyRecord, placed, record_tried}
 use Rattle.iw_stream.specs.Judging.{verdict, early_verdict, turn_of}
 use Rattle.iw_stream.specs.Starting.{StartState, AtOnce, Unheard, Heard, is_open, awaits_frame, is_responder, expecting, first_place_in, progress_in, heard, mismatch_in, negotiation_fault, agreement_in}
-use Rattle.iw_stream.specs.Stream.{StreamState, ended, ends_by, Due, StartUp, LastWord, Response, NextPart, NoneDue, due, owes_frame, response_due, part_due, emission_due, octets_due, left_due, left_fetched, frame_fetched, delivery_of, after_deliver, place_of, left_out, quits, keeps_silent, recv_refusal, post_refusal, first_refusal, answer_refusal, with_buffer, with_request, with_first, with_mulpdu, accepted}
+use Rattle.iw_stream.specs.Stream.{StreamState, ended, ends_by, Due, StartUp, LastWord, Ready, rtr_due, Response, NextPart, NoneDue, due, owes_frame, response_due, part_due, emission_due, octets_due, left_due, left_fetched, frame_fetched, delivery_of, after_deliver, place_of, left_out, quits, keeps_silent, recv_refusal, post_refusal, first_refusal, answer_refusal, with_buffer, with_request, with_first, with_mulpdu, accepted}
 use Rattle.iw_startup.specs.declared.enhanced.Mismatch.{Mismatch}
 use Rattle.iw_stream.specs.Terminating.{terminate_alone, terminate_judged, is_request_of, terminate_fetched}
 use Rattle.iw_stream.specs.Work.{Task, HandOut, GiveUp, GiveBack, Hear, Turn, Clash, Judge, Try, Rest, task, frame_task, front_task, handing_back, next_frame, waiting, clashes, clash_fault, early_frame, scene, inbox, standing, step_of, left_by, table_left, heard_step, after_hearing, after_opening, after_turn, after_judging, after_trying, work_step, worked, table_worked}
@@ -473,7 +473,7 @@ module _ (table : Table) (s w : StreamState) (q : HasQuit s w) where
 
   due_over : (t : StreamState) → ended t ≡ true → due t ≡ last_due t
   due_over t over =
-      ap (λ b. cond (owes_frame t) StartUp (option_map_or LastWord (last_word t.ending) (cond (b || (not (is_open t.start) || keeps_silent t)) NoneDue (option_map_or Response (response_due t) (option_map_or NextPart (part_due t) NoneDue))))) over
+      ap (λ b. cond (owes_frame t) StartUp (option_map_or LastWord (last_word t.ending) (cond (b || (not (is_open t.start) || keeps_silent t)) NoneDue (option_map_or Ready (rtr_due t) (option_map_or Response (response_due t) (option_map_or NextPart (part_due t) NoneDue)))))) over
 
   record GoesAlike (d : Due) : Type 0 where
     shown : shown_of table (emission_due table s d) (octets_due table s d) ≡ shown_of table (emission_due table w d) (octets_due table w d)
@@ -563,11 +563,12 @@ module _ (table : Table) (s : StreamState) (came : Arrived) (left : IsLeftOf s.a
   due_same =
       λ i. cond (owes_frame s) StartUp
       (option_map_or LastWord (last_word s.ending)
-      (cond (ended s || (not (is_open s.start) || (is_responder s.start && nat_eq (left.floor i) (first_place_in s.start)))) NoneDue (option_map_or Response (response_due s) (option_map_or NextPart (part_due s) NoneDue))))
+      (cond (ended s || (not (is_open s.start) || (is_responder s.start && nat_eq (left.floor i) (first_place_in s.start)))) NoneDue (option_map_or Ready (rtr_due s) (option_map_or Response (response_due s) (option_map_or NextPart (part_due s) NoneDue)))))
 
   shown_alike : (d : Due) → shown_of table (emission_due table s d) (octets_due table s d) ≡ shown_of table (emission_due table v d) (octets_due table v d)
   shown_alike StartUp = refl
   shown_alike (LastWord payload) = refl
+  shown_alike (Ready rtr) = refl
   shown_alike (Response part) = refl
   shown_alike (NextPart part) = refl
   shown_alike NoneDue = refl
@@ -575,6 +576,7 @@ module _ (table : Table) (s : StreamState) (came : Arrived) (left : IsLeftOf s.a
   due_like : (d : Due) → Like (left_due table s d) (left_due table v d)
   due_like StartUp = record { same = λ x. refl; left = left; only = only }
   due_like (LastWord payload) = record { same = λ x. refl; left = left; only = only }
+  due_like (Ready rtr) = record { same = λ x. refl; left = left; only = only }
   due_like (Response part) = go (frame_fetched table s part)
     where
       go : (r : Result (List ℕ) Fault) → Like (left_fetched s part r) (left_fetched v part r)

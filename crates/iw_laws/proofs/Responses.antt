@@ -19,8 +19,12 @@ use Rattle.iw_queues.specs.Joined.{Cell, one_if, count_from, count_in, count_wri
 use Rattle.iw_queues.specs.Queue.{Queue}
 use Rattle.iw_queues.specs.Segments.{Numbers, first_numbers, numbers_after, write_segment, send_segment, IsCut, AreSegments}
 use Rattle.iw_reads.specs.declared.requests.Asked.{Asked}
+use Rattle.iw_startup.specs.declared.enhanced.Rtr.{Rtr}
+use Rattle.iw_stream.specs.Rtr.{rtr_message}
+use Rattle.iw_stream.specs.Starting.{StartState, rtr_in}
 use Rattle.iw_stream.specs.Stream.{StreamState}
-use Rattle.iw_laws.specs.Words.{Octets}
+use Rattle.std.specs.Option.{option_map}
+use Rattle.iw_laws.specs.Words.{Octets, listed}
 use Rattle.iw_laws.specs.Turns.{Answer, carries_response}
 use Rattle.iw_laws.specs.Merged.{Item, Post, Response, posts_in, answers_in, response_segment, AreMerged}
 use Rattle.iw_laws.specs.Rules.{FitsPosted}
@@ -28,9 +32,11 @@ use Rattle.iw_laws.specs.Faithful.{laid, begun_for, responses, reads_among}
 use Rattle.iw_laws.proofs.Lists.{Each, each-both, each-first}
 use Rattle.iw_laws.proofs.Tales.{Tale}
 use Rattle.iw_laws.proofs.Joins.{count_writes-append, count_responses, responses-append, count_ended, ended-append, requests_in, requests-append}
-use Rattle.iw_laws.proofs.Merges.{GoesWith, BeginsPost, BeginsResponse, answers-append, posts-append, goes_to, some_merged}
+use Rattle.iw_laws.proofs.Merges.{with_left, GoesWith, BeginsPost, BeginsResponse, answers-append, posts-append, goes_to, some_merged}
 use Rattle.iw_laws.specs.Sends.{farewells}
-use Rattle.iw_laws.proofs.Owns.{Emits, out_of}
+use Rattle.iw_laws.proofs.Owns.{Emits, out_of, all_begun}
+use Rattle.iw_laws.proofs.Ready.{ready_in}
+use Rattle.iw_laws.proofs.Sending.{rtr_fits}
 
 -- ---- octets, each at its place
 
@@ -280,15 +286,15 @@ merged_fits numbers offset (Response a ∷ items) ss (mine, later, is, one, rest
 pub record Carries (s : StreamState) (t : Tale) (e : Emits s t) : Type 0 where
   pub items : List Item
   pub later : List (Segment Octets)
-  pub goes : GoesWith e.kept s.asked.unanswered t.story.begun items
-  pub posts : posts_in items ≡ e.kept.unsent
+  pub goes : GoesWith (with_left e.left e.kept) s.asked.unanswered t.story.begun items
+  pub posts : posts_in items ≡ e.left ++ e.kept.unsent
   pub requests : map (λ (a : Answer). a.request) (answers_in items) ≡ map (λ (a : Asked). a.request) s.asked.unanswered
   pub left : AreMerged s.numbers (e.kept.offset + length t.story.begun) items later
   pub all : AreMerged first_numbers 0 (e.merges.items ++ items) (e.segments ++ later)
 
 pub carries : (s : StreamState) (t : Tale) (e : Emits s t) → Carries s t e
 carries s t e =
-    let g = goes_to e.kept s.numbers s.asked.unanswered t.story.begun s.asked.fetched e.asks.fetched e.asks.begun e.merges.apart e.limits.begun in
+    let g = goes_to (with_left e.left e.kept) s.numbers s.asked.unanswered t.story.begun s.asked.fetched e.asks.fetched e.asks.begun e.merges.apart (all_begun e) in
     let m = some_merged s.numbers (e.kept.offset + length t.story.begun) g.items g.whole in
     record { items = g.items; later = m.0; goes = g.goes; posts = g.posts; requests = g.requests; left = m.1; all = e.merges.goes_on g.items m.0 g.goes m.1 }
 
@@ -345,7 +351,7 @@ sent_responses c s t e =
       laid_in-append c e.merges.items k.items,
       ap (λ z. count_writes c (map laid z)) e.merges.are,
       merged_responses c s.numbers (e.kept.offset + length t.story.begun) k.items k.later k.left,
-      begun_left c e.kept s.asked.unanswered t.story.begun k.items k.goes e.merges.apart,
+      begun_left c (with_left e.left e.kept) s.asked.unanswered t.story.begun k.items k.goes e.merges.apart,
       ap (λ z. count_writes c (map laid (begun_for z.unanswered t.story.begun))) e.asks.asked,
       ap (count_writes c) (map-append laid t.story.answers (begun_for t.story.asked.unanswered t.story.begun)),
       count_writes-append c (map laid t.story.answers) (map laid (begun_for t.story.asked.unanswered t.story.begun)),
@@ -391,16 +397,23 @@ sent_before c s t e first later is = elim (either first later e.segments (farewe
         merged_before c first_numbers (e.merges.items ++ k.items) first (later ++ k.later) (e.segments ++ k.later) (sym (append_assoc first later k.later) ∙ ap (λ z. z ++ k.later) (sym is)) k.all in
         subst (λ z. count_writes c (map laid z) ≤ count_responses c first) (ap (take (count_ended first)) answers ∙ take-append-le (count_ended first) t.story.answers (answers_in k.items) few) all
 
--- the requests that were sent are the first of the Reads that were posted
-pub record Asks (t : Tale) (segments : List (Segment Octets)) : Type 0 where
-  pub rest : List ReadRequest
-  pub are : requests_in segments ++ rest ≡ reads_among t.posted
+pub ready_fit : (start : StartState) (ms : List (Request Octets)) → Each FitsPosted ms → Each FitsPosted (ready_in start ++ ms)
+ready_fit start ms fit = go (rtr_in start)
+  where
+    go : (o : Option Rtr) → Each FitsPosted (listed (option_map rtr_message o) ++ ms)
+    go None = fit
+    go (Some rtr) = (rtr_fits rtr, fit)
 
-pub sent_requests : (s : StreamState) (t : Tale) (e : Emits s t) → Asks t e.segments
+-- the requests that were sent are the first of the RTR, if it is a Read, and the Reads that were posted
+pub record Asks (ready : List (Request Octets)) (t : Tale) (segments : List (Segment Octets)) : Type 0 where
+  pub rest : List ReadRequest
+  pub are : requests_in segments ++ rest ≡ reads_among (ready ++ t.posted)
+
+pub sent_requests : (s : StreamState) (t : Tale) (e : Emits s t) → Asks (ready_in s.start) t e.segments
 sent_requests s t e =
     let k = carries s t e in
-    let posts : posts_in (e.merges.items ++ k.items) ≡ t.posted = posts-append e.merges.items k.items ∙ ap (λ z. posts_in e.merges.items ++ z) k.posts ∙ e.merges.posts in
-    let fits : Each FitsPosted (posts_in (e.merges.items ++ k.items)) = subst (Each FitsPosted) (sym posts) e.fit in
+    let posts : posts_in (e.merges.items ++ k.items) ≡ ready_in s.start ++ t.posted = posts-append e.merges.items k.items ∙ ap (λ z. posts_in e.merges.items ++ z) k.posts ∙ e.merges.posts in
+    let fits : Each FitsPosted (posts_in (e.merges.items ++ k.items)) = subst (Each FitsPosted) (sym posts) (ready_fit s.start t.posted e.fit) in
     record {
       rest = requests_in k.later;
       are = sym (requests-append e.segments k.later) ∙ merged_requests first_numbers 0 (e.merges.items ++ k.items) (e.segments ++ k.later) k.all fits ∙ ap reads_among posts;

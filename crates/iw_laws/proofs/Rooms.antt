@@ -15,7 +15,7 @@ use Rattle.iw_startup.specs.declared.side.Reply.{Reply}
 use Rattle.iw_startup.specs.declared.side.Reply.TheVariants.{Accept, Reject}
 use Rattle.iw_startup.specs.declared.side.Side.{Side}
 use Rattle.iw_startup.specs.declared.side.Side.TheVariants.{Initiator, Responder}
-use Rattle.iw_startup.specs.Enhanced.{at_responder, asked_revision}
+use Rattle.iw_startup.specs.Enhanced.{asked_revision}
 use Rattle.iw_startup.specs.Frame.{is_enhanced, has_word, has_revision, has_flag, private_room, revision_of}
 use Rattle.iw_startup.specs.declared.enhanced.Mismatch.{Mismatch}
 use Rattle.iw_startup.specs.declared.progress.Progress.{Progress}
@@ -87,13 +87,13 @@ answer_fits u private few fits =
     go false h = few
 
 -- so does a Request
-pub opening_fits : (config : Config) → length config.private.items ≤ 512 → exceeds_request roles.Initiator config ≡ false → length config.private.items ≤ private_room (asked_revision (at_responder config.establishment))
+pub opening_fits : (config : Config) → length config.private.items ≤ 512 → exceeds_request roles.Initiator config ≡ false → length config.private.items ≤ private_room (asked_revision config.establishment)
 opening_fits config few fits = go config.establishment fits
   where
     low : nat_lt 508 (length config.private.items) ≡ false → length config.private.items ≤ 508
     low h = grind (arith, nat_tests)
 
-    go : (e : Establishment) → (is_enhanced (asked_revision e) && nat_lt 508 (length config.private.items)) ≡ false → length config.private.items ≤ private_room (asked_revision (at_responder e))
+    go : (e : Establishment) → (is_enhanced (asked_revision e) && nat_lt 508 (length config.private.items)) ≡ false → length config.private.items ≤ private_room (asked_revision e)
     go Plain h = few
     go Enhanced h = low h
     go PeerToPeer h = low h

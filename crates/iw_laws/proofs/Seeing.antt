@@ -43,7 +43,7 @@ use Rattle.iw_startup.specs.declared.progress.Progress.TheVariants as progress
 use Rattle.iw_untagged.specs.Receiving.{Receiving, buffer_fault}
 use Rattle.iw_startup.specs.declared.enhanced.Mismatch.{Mismatch as Unmatched}
 use Rattle.iw_stream.specs.Starting.{StartState, first_place_in, progress_in, heard, mismatch_in}
-use Rattle.iw_stream.specs.Stream.{StreamState, Due, StartUp, LastWord, Response, NextPart, NoneDue, due, emission_of, emitted, emission_due, octets_due, emission_fetched, octets_fetched, frame_fetched}
+use Rattle.iw_stream.specs.Stream.{StreamState, Due, StartUp, LastWord, Response, NextPart, NoneDue, due, emission_of, emitted, emission_due, octets_due, emission_fetched, octets_fetched, frame_fetched, Ready}
 use Rattle.iw_reads.specs.declared.response.ResponsePart.{ResponsePart}
 use Rattle.iw_stream.specs.Work.{Task, HandOut, GiveUp, GiveBack, Hear, Turn, Clash, Judge, Try, Rest, task, standing, judged_step, tried_step, turned_step, heard_step, opened_step, step_of, table_judged, table_passed, table_left, inbox, work_step, table_worked}
 use Rattle.iw_events.specs.declared.act.StreamAct.{StreamAct}
@@ -335,6 +335,7 @@ shown_sends table s = go (due s)
     go : (d : Due) → sent_by (Emit (shown_of table (emission_due table s d) (octets_due table s d))) ≡ octets_due table s d
     go StartUp = refl
     go (LastWord payload) = refl
+    go (Ready rtr) = refl
     go (Response part) = fetched part (frame_fetched table s part)
     go (NextPart part) = refl
     go NoneDue = refl

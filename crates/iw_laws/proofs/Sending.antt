@@ -19,13 +19,16 @@ use Rattle.iw_queues.specs.Request.{payload, size_of, header_len}
 use Rattle.iw_queues.specs.Completions.{next_ticket}
 use Rattle.iw_queues.specs.Queue.{Queue, next_part, part_of_first, part_from, IsBegun, IsWithinLimits}
 use Rattle.iw_queues.specs.Queue as queues
-use Rattle.iw_queues.specs.Segments.{Numbers, numbers_after, numbers_beyond, segment_with, segment_of}
+use Rattle.iw_queues.specs.Segments.{Numbers, first_numbers, numbers_after, numbers_beyond, segment_with, segment_of, AreSegments}
 use Rattle.iw_octets.specs.declared.operation.UntaggedOperation.TheVariants as untagged
 use Rattle.iw_octets.specs.Operation.{control_of, untagged_opcode}
 use Rattle.iw_stream.specs.declared.answer.PostRefusal.TheVariants as post_refusals
 use Rattle.iw_stream.specs.Starting.{is_open, most_reads_in, own_frame}
 use Rattle.iw_stream.specs.Judging.{fault_or}
-use Rattle.iw_stream.specs.Stream.{StreamState, Due, StartUp, LastWord, Response, NextPart, NoneDue, ended, post_refusal, post_refusal_of, owes_frame, keeps_silent, is_read, may_go, part_due, response_due, due, frame_of, frame_of_part, frame_of_terminate, octets_due, octets_fetched, emission_due, emission_fetched, emission_of, emitted}
+use Rattle.iw_startup.specs.declared.enhanced.Rtr.{Rtr}
+use Rattle.iw_startup.specs.declared.enhanced.Rtr.TheVariants as rtrs
+use Rattle.iw_stream.specs.Rtr.{rtr_stag, rtr_request, rtr_message, rtr_segment}
+use Rattle.iw_stream.specs.Stream.{StreamState, Due, StartUp, LastWord, Response, NextPart, NoneDue, ended, post_refusal, post_refusal_of, owes_frame, keeps_silent, is_read, may_go, part_due, response_due, due, frame_of, frame_of_part, frame_of_terminate, octets_due, octets_fetched, emission_due, emission_fetched, emission_of, emitted, Ready, rtr_due, frame_of_rtr}
 use Rattle.iw_reads.specs.declared.response.ResponsePart.{ResponsePart}
 use Rattle.iw_reads.specs.Response.{response_head, fetch_fault, fetched_octets}
 use Rattle.iw_memory.specs.Table.{Table, octets_at}
@@ -40,7 +43,7 @@ use Rattle.iw_laws.specs.Rules.{FitsPosted, FitsOptional}
 use Rattle.iw_laws.specs.Words.{Octets}
 use Rattle.iw_laws.specs.Rules.{shown_of}
 use Rattle.iw_laws.specs.Sends.{terminate_segment}
-use Rattle.iw_laws.specs.Turns.{carries_response}
+use Rattle.iw_laws.specs.Turns.{carries_response, is_last}
 use Rattle.iw_stream.specs.Ending.{last_word}
 use Rattle.iw_rdmap.specs.Laws.{terminate_head}
 use Rattle.iw_rdmap.specs.Terminate.{header_len as front_len, has_segment, has_request, word_for, terminate_octets}
@@ -90,7 +93,7 @@ pub data Rests (s : StreamState) : Type 0 where
   Ended : ended s ≡ true → Rests s
   Shut : is_open s.start ≡ false → Rests s
   Silent : keeps_silent s ≡ true → Rests s
-  Sent : response_due s ≡ None → part_due s ≡ None → Rests s
+  Sent : rtr_due s ≡ None → response_due s ≡ None → part_due s ≡ None → Rests s
 
 -- the stream has not ended, is open and need not keep silent
 pub record MaySpeak (s : StreamState) : Type 0 where
@@ -109,6 +112,7 @@ pub record IsLoud (s : StreamState) (part : Part (Request Octets)) : Type 0 wher
   pub running : ended s ≡ false
   pub started : is_open s.start ≡ true
   pub loud : keeps_silent s ≡ false
+  pub unready : rtr_due s ≡ None
   pub quiet : response_due s ≡ None
   pub part_is : next_part s.queue s.mulpdu ≡ Some part
   pub room : HasRoom s part
@@ -117,7 +121,8 @@ pub record IsLoud (s : StreamState) (part : Part (Request Octets)) : Type 0 wher
 abbrev IsDue : StreamState → Due → Type 0
 IsDue s StartUp = owes_frame s ≡ true
 IsDue s (LastWord payload) = (owes_frame s ≡ false) × (last_word s.ending ≡ Some payload)
-IsDue s (Response part) = MaySpeak s × (response_due s ≡ Some part)
+IsDue s (Ready rtr) = MaySpeak s × (rtr_due s ≡ Some rtr)
+IsDue s (Response part) = MaySpeak s × (rtr_due s ≡ None) × (response_due s ≡ Some part)
 IsDue s (NextPart part) = IsLoud s part
 IsDue s NoneDue = (owes_frame s ≡ false) × (last_word s.ending ≡ None) × Rests s
 
@@ -133,21 +138,22 @@ goes s part e = go (next_part s.queue s.mulpdu) refl e
         by false c h = let same : p ≡ part = same_Some _ _ h in (is ∙ h, subst (HasRoom s) same c)
 
 due_told : (s : StreamState) → IsDue s (due s)
-due_told s = go (owes_frame s) (last_word s.ending) (ended s) (is_open s.start) (keeps_silent s) (response_due s) (part_due s) refl refl refl refl refl refl refl
+due_told s = go (owes_frame s) (last_word s.ending) (ended s) (is_open s.start) (keeps_silent s) (rtr_due s) (response_due s) (part_due s) refl refl refl refl refl refl refl refl
   where
-    go : (owes : Bool) (w : Option Octets) (over started silent : Bool) (r : Option ResponsePart) (o : Option (Part (Request Octets))) → owes_frame s ≡ owes → last_word s.ending ≡ w → ended s ≡ over → is_open s.start ≡ started → keeps_silent s ≡ silent
-        → response_due s ≡ r → part_due s ≡ o
-        → IsDue s (cond owes StartUp (option_map_or LastWord w (cond (over || (not started || silent)) NoneDue (option_map_or Response r (option_map_or NextPart o NoneDue)))))
-    go true w over started silent r o a z b c d q is = a
-    go false (Some payload) over started silent r o a z b c d q is = (a, z)
-    go false None true started silent r o a z b c d q is = (a, z, Ended b)
-    go false None false false silent r o a z b c d q is = (a, z, Shut c)
-    go false None false true true r o a z b c d q is = (a, z, Silent d)
-    go false None false true false (Some part) o a z b c d q is = (record { spoken = a; running = b; started = c; loud = d }, q)
-    go false None false true false None None a z b c d q is = (a, z, Sent q is)
-    go false None false true false None (Some part) a z b c d q is =
+    go : (owes : Bool) (w : Option Octets) (over started silent : Bool) (y : Option Rtr) (r : Option ResponsePart) (o : Option (Part (Request Octets))) → owes_frame s ≡ owes → last_word s.ending ≡ w → ended s ≡ over → is_open s.start ≡ started → keeps_silent s ≡ silent
+        → rtr_due s ≡ y → response_due s ≡ r → part_due s ≡ o
+        → IsDue s (cond owes StartUp (option_map_or LastWord w (cond (over || (not started || silent)) NoneDue (option_map_or Ready y (option_map_or Response r (option_map_or NextPart o NoneDue))))))
+    go true w over started silent y r o a z b c d n q is = a
+    go false (Some payload) over started silent y r o a z b c d n q is = (a, z)
+    go false None true started silent y r o a z b c d n q is = (a, z, Ended b)
+    go false None false false silent y r o a z b c d n q is = (a, z, Shut c)
+    go false None false true true y r o a z b c d n q is = (a, z, Silent d)
+    go false None false true false (Some rtr) r o a z b c d n q is = (record { spoken = a; running = b; started = c; loud = d }, n)
+    go false None false true false None (Some part) o a z b c d n q is = (record { spoken = a; running = b; started = c; loud = d }, n, q)
+    go false None false true false None None None a z b c d n q is = (a, z, Sent n q is)
+    go false None false true false None None (Some part) a z b c d n q is =
         let g = goes s part is in
-        record { spoken = a; running = b; started = c; loud = d; quiet = q; part_is = g.0; room = g.1 }
+        record { spoken = a; running = b; started = c; loud = d; unready = n; quiet = q; part_is = g.0; room = g.1 }
 
 -- the start-up frame is emitted
 pub record EmitsStart (s : StreamState) (from : ℕ) (octets : Octets) : Type 0 where
@@ -165,6 +171,15 @@ pub record EmitsLast (s : StreamState) (from : ℕ) (octets : Octets) : Type 0 w
   pub from_is : from ≡ s.sent
   pub octets_are : octets ≡ frame_of_terminate s payload
 
+-- the RTR is emitted
+pub record EmitsReady (s : StreamState) (from : ℕ) (octets : Octets) : Type 0 where
+  pub rtr : Rtr
+  pub speaks : MaySpeak s
+  pub is_due : rtr_due s ≡ Some rtr
+  pub next : due s ≡ Ready rtr
+  pub from_is : from ≡ s.sent
+  pub octets_are : octets ≡ frame_of_rtr s rtr
+
 -- a frame is emitted: that of the part that is due, on an open stream that has not ended and need not keep silent
 pub record EmitsPart (s : StreamState) (from : ℕ) (octets : Octets) : Type 0 where
   pub part : Part (Request Octets)
@@ -177,6 +192,7 @@ pub record EmitsPart (s : StreamState) (from : ℕ) (octets : Octets) : Type 0 w
 pub record EmitsResponse (table : Table) (s : StreamState) (from : ℕ) (frame : Octets) (stag : Stag) (to : ℕ) (octets : Octets) : Type 0 where
   pub part : ResponsePart
   pub speaks : MaySpeak s
+  pub unready : rtr_due s ≡ None
   pub is_due : response_due s ≡ Some part
   pub from_is : from ≡ s.sent
   pub frame_is : frame ≡ frame_of s (Tagged part.head octets)
@@ -189,6 +205,7 @@ pub record EmitsResponse (table : Table) (s : StreamState) (from : ℕ) (frame :
 pub record EmitsDenial (table : Table) (s : StreamState) (fault : Fault) : Type 0 where
   pub part : ResponsePart
   pub speaks : MaySpeak s
+  pub unready : rtr_due s ≡ None
   pub is_due : response_due s ≡ Some part
   pub denied : fetch_fault table s.domain part ≡ Some fault
 
@@ -200,7 +217,7 @@ pub record EmitsNothing (s : StreamState) : Type 0 where
   pub reason : Rests s
 
 abbrev pub Emits_as : Table → StreamState → Shown Octets → Type 0
-Emits_as table s (Frame from octets) = EmitsStart s from octets ⊎ (EmitsLast s from octets ⊎ EmitsPart s from octets)
+Emits_as table s (Frame from octets) = EmitsStart s from octets ⊎ (EmitsLast s from octets ⊎ (EmitsReady s from octets ⊎ EmitsPart s from octets))
 Emits_as table s (Fetched from frame stag to octets) = EmitsResponse table s from frame stag to octets
 Emits_as table s (Denied fault) = EmitsDenial table s fault
 Emits_as table s Nothing = EmitsNothing s
@@ -208,16 +225,17 @@ Emits_as table s Nothing = EmitsNothing s
 pub emits_as : (table : Table) (s : StreamState) (shown : Shown Octets) → shown ≡ shown_of table (emission_of table s) (emitted table s) → Emits_as table s shown
 emits_as table s shown e = subst (Emits_as table s) (sym e) (go (due s) refl (due_told s))
   where
-    fetched : (part : ResponsePart) → MaySpeak s → response_due s ≡ Some part → (f : Option Fault) → fetch_fault table s.domain part ≡ f
+    fetched : (part : ResponsePart) → MaySpeak s → rtr_due s ≡ None → response_due s ≡ Some part → (f : Option Fault) → fetch_fault table s.domain part ≡ f
         → Emits_as table s (shown_of table (emission_fetched s part (fault_or f (frame_of s (Tagged part.head (fetched_octets table part))))) (octets_fetched (fault_or f (frame_of s (Tagged part.head (fetched_octets table part))))))
-    fetched part speaks due None c = record { part = part; speaks = speaks; is_due = due; from_is = refl; frame_is = refl; stag_is = refl; to_is = refl; octets_are = refl; admitted = c }
-    fetched part speaks due (Some fault) c = record { part = part; speaks = speaks; is_due = due; denied = c }
+    fetched part speaks unready due None c = record { part = part; speaks = speaks; unready = unready; is_due = due; from_is = refl; frame_is = refl; stag_is = refl; to_is = refl; octets_are = refl; admitted = c }
+    fetched part speaks unready due (Some fault) c = record { part = part; speaks = speaks; unready = unready; is_due = due; denied = c }
 
     go : (d : Due) → due s ≡ d → IsDue s d → Emits_as table s (shown_of table (emission_due table s d) (octets_due table s d))
     go StartUp is t = inl (record { owes = t; next = is; from_is = refl; octets_are = refl })
-    go (Response part) is t = fetched part t.0 t.1 (fetch_fault table s.domain part) refl
+    go (Response part) is t = fetched part t.0 t.1 t.2 (fetch_fault table s.domain part) refl
     go (LastWord payload) is t = inr (inl (record { spoken = t.0; payload = payload; is_due = t.1; next = is; from_is = refl; octets_are = refl }))
-    go (NextPart part) is t = inr (inr (record { part = part; is_loud = t; next = is; from_is = refl; octets_are = refl }))
+    go (Ready rtr) is t = inr (inr (inl (record { rtr = rtr; speaks = t.0; is_due = t.1; next = is; from_is = refl; octets_are = refl })))
+    go (NextPart part) is t = inr (inr (inr (record { part = part; is_loud = t; next = is; from_is = refl; octets_are = refl })))
     go NoneDue is t = record { spoken = t.0; silent = t.1; next = is; reason = t.2 }
 
 -- where no part is due, nothing is left to be sent
@@ -373,7 +391,7 @@ shown_good numbers q max part e limits enough few number fit =
     subst (λ p. IsSendable (segment_of numbers p)) (sym w.is) (part_good numbers m q.offset (min (length (payload m) - q.offset) (max - header_len m)) _ number fits early room)
 
 -- the numbers of the next messages stay within their fields
-next_small : (numbers : Numbers) (m : Request Octets) → FitsNumbers numbers → FitsNumbers (numbers_after numbers m)
+pub next_small : (numbers : Numbers) (m : Request Octets) → FitsNumbers numbers → FitsNumbers (numbers_after numbers m)
 next_small numbers (Posted (Write stag to octets)) h = h
 next_small numbers (Posted (Send octets solicited invalidate)) h = record { send = omega arith; read = h.read }
 next_small numbers (Read request) h = record { send = h.send; read = omega arith }
@@ -384,3 +402,42 @@ past_small numbers part h = go part.last
     go : (last : Bool) → FitsNumbers (cond last (numbers_after numbers part.message) numbers)
     go true = next_small numbers part.message h
     go false = h
+
+-- ---- the RTR
+
+pub rtr_fits : (rtr : Rtr) → FitsPosted (rtr_message rtr)
+rtr_fits rtrs.Write = (record { domain = omega arith; slot = omega arith; key = omega arith }, omega arith)
+rtr_fits rtrs.Read = record {
+  sink = record { domain = omega arith; slot = omega arith; key = omega arith };
+  sink_to = omega arith;
+  size = omega arith;
+  source = record { domain = omega arith; slot = omega arith; key = omega arith };
+  source_to = omega arith;
+}
+
+-- its segment
+pub rtr_good : (numbers : Numbers) (rtr : Rtr) → FitsNumbers numbers → IsSendable (rtr_segment numbers rtr)
+rtr_good numbers rtrs.Write number = part_good numbers (rtr_message rtrs.Write) 0 0 true number (rtr_fits rtrs.Write) (omega arith) (omega arith)
+rtr_good numbers rtrs.Read number = part_good numbers (rtr_message rtrs.Read) 0 0 true number (rtr_fits rtrs.Read) (omega arith) (omega arith)
+
+-- its size
+pub rtr_small : (numbers : Numbers) (rtr : Rtr) → length (segment_octets (rtr_segment numbers rtr)) ≤ 46
+rtr_small numbers rtrs.Write = omega (arith, length-segment_octets_tagged (record { last = true; ddp_version = 1; control = control_of 0; stag = rtr_stag; to = 0 }) [])
+rtr_small numbers rtrs.Read =
+    omega (
+      arith,
+      length-segment_octets_untagged (record { last = true; ddp_version = 1; control = control_of (untagged_opcode untagged.ReadRequest); tail = 0; queue = 1; msn = numbers.read; mo = 0 }) (request_octets rtr_request),
+      length-request_octets rtr_request,
+    )
+
+pub rtr_plain : (numbers : Numbers) (rtr : Rtr) → carries_response (rtr_segment numbers rtr) ≡ false
+rtr_plain numbers rtrs.Write = refl
+rtr_plain numbers rtrs.Read = refl
+
+pub rtr_last : (numbers : Numbers) (rtr : Rtr) → is_last (rtr_segment numbers rtr) ≡ true
+rtr_last numbers rtrs.Write = refl
+rtr_last numbers rtrs.Read = refl
+
+pub rtr_spelled : (rtr : Rtr) → AreSegments first_numbers (rtr_message rtr) 0 (rtr_segment first_numbers rtr ∷ [])
+rtr_spelled rtrs.Write = (omega arith, refl)
+rtr_spelled rtrs.Read = refl

@@ -157,6 +157,7 @@ few_all trace follows = few_onward [] trace start unsaid few_none follows
 -- so, in a trace that is not too long, no stream has come far
 short_end : (trace : List (Entry Octets)) (w : State) → Keeps trace w → Few trace → length trace < 2 ^ 45 → (x : End) → IsShortEnd (end_of x w)
 short_end trace w k few bound x = record {
+  numbers = (k.ends x).numbers;
   streams = λ n.
       let p = k.pairs x n in
       let mine : sent_on n (acts x trace) ≤ 2 ^ 17 * length trace = few x n in

@@ -19,7 +19,7 @@ use Rattle.iw_stream.specs.Starting.{agreement_in}
 use Rattle.iw_stream.specs.declared.answer.RecvRefusal.TheVariants as recv_refusals
 use Rattle.iw_stream.proofs.Sharing.{left_alone}
 use Rattle.iw_stream.proofs.Sharing.{work_shares}
-use Rattle.iw_stream.specs.Stream.{StreamState, shares, sees, ended, recv_refusal_of, Due, StartUp, LastWord, Response as ResponseDue, NextPart, NoneDue, due, emission_of, emitted, emission_due, octets_due, emission_fetched, octets_fetched, frame_fetched, opened, with_buffer, with_request, with_mulpdu, accepted, rejected, breaks, after_emit, after_deliver, recv_refusal, post_refusal, size_refusal, answer_refusal, with_first, first_refusal}
+use Rattle.iw_stream.specs.Stream.{StreamState, shares, sees, ended, recv_refusal_of, Due, StartUp, LastWord, Response as ResponseDue, NextPart, NoneDue, due, emission_of, emitted, emission_due, octets_due, emission_fetched, octets_fetched, frame_fetched, opened, with_buffer, with_request, with_mulpdu, accepted, rejected, breaks, after_emit, after_deliver, recv_refusal, post_refusal, size_refusal, answer_refusal, with_first, first_refusal, Ready}
 use Rattle.iw_stream.specs.Work.{worked}
 use Rattle.iw_endpoint.specs.declared.refusal.CallRefusal.TheVariants.{Refused}
 use Rattle.iw_endpoint.specs.Endpoint as endpoint
@@ -105,6 +105,7 @@ module _ (table : Table) (s : StreamState) (pool : List Octets) where
       go : (k : Due) → shown_of table (emission_due table s k) (octets_due table s k) ≡ shown_of table (emission_due table (sees s pool) k) (octets_due table (sees s pool) k)
       go StartUp = refl
       go (LastWord payload) = refl
+      go (Ready rtr) = refl
       go (ResponseDue part) = fetched part (frame_fetched table s part)
       go (NextPart part) = refl
       go NoneDue = refl
@@ -330,6 +331,43 @@ pools_refused (Some r) e new h = refl
 pub pools_there : (o : Option StreamState) (e new : EndpointState) → new.pools ≡ e.pools → (if_there o e new).pools ≡ e.pools
 pools_there None e new h = refl
 pools_there (Some s) e new h = h
+
+-- ---- the numbers of streams that were closed
+
+closed_refused : {R : Type 0} (q : Option R) (e new : EndpointState) → new.closed ≡ e.closed → (unless q e new).closed ≡ e.closed
+closed_refused None e new h = h
+closed_refused (Some r) e new h = refl
+
+closed_there : (o : Option StreamState) (e new : EndpointState) → new.closed ≡ e.closed → (if_there o e new).closed ≡ e.closed
+closed_there None e new h = refl
+closed_there (Some s) e new h = h
+
+-- no act closes one
+stream_closed : (e : EndpointState) (n : ℕ) (act : StreamAct Octets) → (after e (call_made (Stream n act))).closed ≡ e.closed
+stream_closed e n (Recv len refused) = closed_refused (endpoint.recv_refusal e n) e (endpoint.with_buffer e n (replicate len 0)) refl
+stream_closed e n (Post m refused) = closed_refused (endpoint.post_refusal e n m) e (endpoint.with_request e n m) refl
+stream_closed e n (Emit shown) = closed_there (stream_of e n) e (endpoint.after_emit e n) refl
+stream_closed e n (First number refused) = closed_refused (endpoint.first_refusal e n) e (endpoint.with_first e n number) refl
+stream_closed e n (Deliver from number octets delivery) = closed_there (stream_of e n) e (endpoint.after_deliver e n number octets) refl
+stream_closed e n (Raw number octets delivery) = closed_there (stream_of e n) e (endpoint.after_deliver e n number octets) refl
+stream_closed e n (Mulpdu size refused) = closed_refused (endpoint.size_refusal e n size) e (endpoint.with_mulpdu e n size) refl
+stream_closed e n (Accept private answer) = closed_refused (endpoint.answer_refusal e n (private_data private).items) e (endpoint.accepted e n (private_data private)) refl
+stream_closed e n (Reject private refused) = closed_refused (endpoint.answer_refusal e n (private_data private).items) e (endpoint.rejected e n (private_data private)) refl
+stream_closed e n (Work step) = closed_there (stream_of e n) e (endpoint.after_work e n) refl
+stream_closed e n Break = closed_there (stream_of e n) e (endpoint.broken e n) refl
+
+pub closed_left : (e : EndpointState) (act : Act Octets) → (after e (call_made act)).closed ≡ e.closed
+closed_left e (Domain pd refused) = closed_refused (endpoint.domain_refusal e pd) e (endpoint.added e pd) refl
+closed_left e (Register pd base rights octets answer) = closed_refused (register_refusal e.table pd base (length octets)) e (endpoint.registered e pd base octets rights) refl
+closed_left e (Deregister stag answer) = refl
+closed_left e (Invalidate stag refused) = refl
+closed_left e (Store stag to octets refused) = closed_refused (endpoint.store_refusal e stag to (length octets)) e (endpoint.stored e stag to octets) refl
+closed_left e (Open n pd role options private refused) = closed_refused (endpoint.open_refusal e n pd role (config_for options private)) e (endpoint.opened e n pd role (config_for options private)) refl
+closed_left e (Share pd refused) = closed_refused (endpoint.share_refusal e pd) e (endpoint.shared e pd) refl
+closed_left e (Pool pd len refused) = closed_refused (endpoint.pool_refusal e pd) e (endpoint.pooled e pd (replicate len 0)) refl
+closed_left e (Unpool pd answer) = closed_refused (endpoint.take_refusal e pd) e (endpoint.after_take e pd) refl
+closed_left e (OpenShared n pd role options private refused) = closed_refused (endpoint.open_shared_refusal e n pd role (config_for options private)) e (endpoint.opened_shared e n pd role (config_for options private)) refl
+closed_left e (Stream n act) = stream_closed e n act
 
 -- ---- its wires
 

@@ -24,7 +24,7 @@ use Rattle.iw_events.specs.declared.act.Seen.{Seen}
 use Rattle.iw_events.specs.declared.act.Seen.TheVariants as seen
 use Rattle.iw_events.specs.declared.act.Entry.{Entry}
 use Rattle.iw_laws.specs.Once.{Span, Placed, placed_after, spans_by, spans_placed}
-use Rattle.iw_laws.specs.Turns.{Story, story, story_after, story_seen, story_shown, says_farewell, sends_segment, segment_out, fetches_for, untold, Pooling, nothing_pooled, pooling, pooling_after, pooling_by, pooling_seen, queue_seen, taken_back}
+use Rattle.iw_laws.specs.Turns.{Story, story, story_after, story_seen, story_shown, says_farewell, sends_frame, is_rtr, segment_out, fetches_for, untold, Pooling, nothing_pooled, pooling, pooling_after, pooling_by, pooling_seen, queue_seen, taken_back}
 use Rattle.iw_laws.specs.Words.{Opening, Octets, deed, domain_of, opening_of, other, acts, acts_if, stream_acts, stream_acts_by, openings, openings_by, posted, posted_by, finished_kinds, finished_by, handed_kinds, handed_by, size_set, size_after, Sent, received, received_by, ended, ended_after, sent, sent_by, Placing, placings, placed_by, table_after, table_by}
 
 -- what the acts of one end say of one of its streams
@@ -111,17 +111,18 @@ begins_more z octets = record z {
 module _ (t : Story) (r : Receiving) where
   -- what the acts say besides is the same
   shown_apart : (shown : Shown Octets) → story_shown (record t { receiving = r }) shown ≡ record (story_shown t shown) { receiving = (story_shown (record t { receiving = r }) shown).receiving }
-  shown_apart (shows.Frame from octets) = go (nat_lt from (first_place_out t.start)) (last_word t.ending) (segment_out t from octets)
+  shown_apart (shows.Frame from octets) = go (nat_lt from (first_place_out t.start)) (last_word t.ending) (segment_out t from octets) (is_rtr t from)
     where
-      go : (first : Bool) (word : Option Octets) (segment : Option (Segment Octets))
-          → cond first (record t { receiving = r }) (option_map_or (says_farewell (record t { receiving = r })) word (option_map_or (sends_segment (record t { receiving = r })) segment (record t { receiving = r })))
-          ≡ record (cond first t (option_map_or (says_farewell t) word (option_map_or (sends_segment t) segment t))) {
-            receiving = (cond first (record t { receiving = r }) (option_map_or (says_farewell (record t { receiving = r })) word (option_map_or (sends_segment (record t { receiving = r })) segment (record t { receiving = r })))).receiving;
+      go : (first : Bool) (word : Option Octets) (segment : Option (Segment Octets)) (ready : Bool)
+          → cond first (record t { receiving = r }) (option_map_or (says_farewell (record t { receiving = r })) word (option_map_or (sends_frame (record t { receiving = r }) ready) segment (record t { receiving = r })))
+          ≡ record (cond first t (option_map_or (says_farewell t) word (option_map_or (sends_frame t ready) segment t))) {
+            receiving = (cond first (record t { receiving = r }) (option_map_or (says_farewell (record t { receiving = r })) word (option_map_or (sends_frame (record t { receiving = r }) ready) segment (record t { receiving = r })))).receiving;
           }
-      go true word segment = refl
-      go false (Some payload) segment = refl
-      go false None None = refl
-      go false None (Some segment) = refl
+      go true word segment ready = refl
+      go false (Some payload) segment ready = refl
+      go false None None ready = refl
+      go false None (Some segment) true = refl
+      go false None (Some segment) false = refl
   shown_apart (shows.Fetched from frame stag to octets) = go t.asked.unanswered
     where
       go : (waiting : List Asked) → fetches_for (record t { receiving = r }) waiting octets ≡ record (fetches_for t waiting octets) { receiving = (fetches_for (record t { receiving = r }) waiting octets).receiving }

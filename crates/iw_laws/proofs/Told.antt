@@ -23,7 +23,7 @@ use Rattle.iw_queues.specs.declared.request.Request.{Request}
 use Rattle.iw_queues.specs.declared.send_queue.Part.{Part}
 use Rattle.iw_queues.specs.Completions as completions
 use Rattle.iw_queues.specs.Queue.{Queue, part_sent, sent_with, done_in, oldest_in, handed_from}
-use Rattle.iw_queues.specs.Segments.{numbers_beyond}
+use Rattle.iw_queues.specs.Segments.{numbers_after, numbers_beyond}
 use Rattle.iw_reads.specs.declared.reads.Outstanding.{Outstanding}
 use Rattle.iw_reads.specs.declared.response.ResponsePart.{ResponsePart}
 use Rattle.iw_rdmap.specs.Judging.{request_fault}
@@ -56,7 +56,9 @@ use Rattle.iw_stream.specs.Ending.{last_word}
 use Rattle.iw_stream.specs.Terminating.{terminate_alone, terminate_judged, terminate_turned, terminate_fetched}
 use Rattle.iw_stream.specs.Judging.{or_else, fault_or, is_solicited, stag_to_invalidate, invalidation_fault, send_turning, early_verdict, table_tried, verdict, answering_by, is_response, tagged_turn, segment_turn, turn_of, receiving_turned, left_by_turn, reads_left, receiving_tried}
 use Rattle.iw_stream.specs.Starting.{StartState, AtOnce, Unheard, Heard, is_open, own_frame, awaits_frame, expecting, first_place_in, progress_in, heard, agreement_in, private_in, told_in, mismatch_in, negotiation_fault, answered_with}
-use Rattle.iw_stream.specs.Stream.{StreamState, Due, StartUp, LastWord, Response, NextPart, NoneDue, ended, ends, ends_by, due, owes_frame, is_mute, part_due, response_due, frame_of_part, frame_of_terminate, frame_fetched, reads_with, octets_due, octets_fetched, emission_due, emission_fetched, emission_of, emitted, left_due, left_fetched, with_buffer, with_request, with_mulpdu, after_emit, after_deliver, accepted, with_first, quits, over}
+use Rattle.iw_startup.specs.declared.enhanced.Rtr.{Rtr}
+use Rattle.iw_stream.specs.Rtr.{rtr_message}
+use Rattle.iw_stream.specs.Stream.{StreamState, Due, StartUp, LastWord, Response, NextPart, NoneDue, ended, ends, ends_by, due, owes_frame, is_mute, part_due, response_due, frame_of_part, frame_of_terminate, frame_fetched, reads_with, octets_due, octets_fetched, emission_due, emission_fetched, emission_of, emitted, left_due, left_fetched, with_buffer, with_request, with_mulpdu, after_emit, after_deliver, accepted, with_first, quits, over, Ready, frame_of_rtr, rtr_due}
 use Rattle.iw_startup.specs.declared.side.Reply.TheVariants.{Reject as Rejecting}
 use Rattle.iw_stream.specs.Work.{Task, Hear, Turn, Clash, Judge, Try, inbox, scene, next_frame, early_frame, waiting, clashes, clash_fault, hears, heard_step, opened_step, turned_step, judged_step, tried_step, step_of, after_hearing, after_opening, after_turn, after_judging, after_trying, left_by, table_judged, table_passed, table_left, work_step, worked, table_worked}
 use Rattle.iw_stream.specs.Work as work
@@ -152,11 +154,16 @@ with_finished q (Some ticket) = sent_with q (completions.finished q.sent ticket)
 abbrev pub left_frame : StreamState → Due → StreamState
 left_frame s StartUp = record s { sent = s.sent + length (own_frame s.start) }
 left_frame s (LastWord payload) = record s { sent = s.sent + length (frame_of_terminate s payload); ending = Over None }
+left_frame s (Ready rtr) = record s {
+  numbers = numbers_after s.numbers (rtr_message rtr);
+  sent = s.sent + length (frame_of_rtr s rtr);
+  reads = reads_with s.reads None (rtr_message rtr);
+}
 left_frame s (NextPart part) = record s {
   queue = part_sent s.queue (Some part);
   numbers = numbers_beyond s.numbers part;
   sent = s.sent + length (frame_of_part s part);
-  reads = reads_with s.reads part.ticket part.message;
+  reads = reads_with s.reads (Some part.ticket) part.message;
 }
 left_frame s (Response part) = s
 left_frame s NoneDue = s
@@ -796,21 +803,23 @@ unheard_by (Heard u) e = absurd (false≢true e)
 abbrev IsResponse : StreamState → Due → Type 0
 IsResponse s StartUp = Unit {0}
 IsResponse s (LastWord payload) = Unit {0}
+IsResponse s (Ready rtr) = Unit {0}
 IsResponse s (Response part) = response_due s ≡ Some part
 IsResponse s (NextPart part) = Unit {0}
 IsResponse s NoneDue = Unit {0}
 
 response_told : (s : StreamState) → IsResponse s (due s)
-response_told s = go (owes_frame s) (is_mute s) (last_word s.ending) (response_due s) (part_due s) refl
+response_told s = go (owes_frame s) (is_mute s) (last_word s.ending) (rtr_due s) (response_due s) (part_due s) refl
   where
-    go : (owes mute : Bool) (w : Option Octets) (o : Option ResponsePart) (p : Option (Part (Request Octets))) → response_due s ≡ o
-        → IsResponse s (cond owes StartUp (option_map_or LastWord w (cond mute NoneDue (option_map_or Response o (option_map_or NextPart p NoneDue)))))
-    go true mute w o p e = tt
-    go false mute (Some payload) o p e = tt
-    go false true None o p e = tt
-    go false false None (Some part) p e = e
-    go false false None None None e = tt
-    go false false None None (Some part) e = tt
+    go : (owes mute : Bool) (w : Option Octets) (r : Option Rtr) (o : Option ResponsePart) (p : Option (Part (Request Octets))) → response_due s ≡ o
+        → IsResponse s (cond owes StartUp (option_map_or LastWord w (cond mute NoneDue (option_map_or Ready r (option_map_or Response o (option_map_or NextPart p NoneDue))))))
+    go true mute w r o p e = tt
+    go false mute (Some payload) r o p e = tt
+    go false true None r o p e = tt
+    go false false None (Some rtr) o p e = tt
+    go false false None None (Some part) p e = e
+    go false false None None None None e = tt
+    go false false None None None (Some part) e = tt
 
 -- whatever the task is
 module _ (table : Table) (s : StreamState) (k : Sound s) where
@@ -899,6 +908,7 @@ left_shown table s shown e = go (due s) refl (response_told s) shown e
     go (LastWord payload) is t shown e = ap (left_frame s) (sym is) ∙ ap (shown_left s) (sym e)
     go (Response part) is t shown e = fetched part t (frame_fetched table s part) shown e
     go (NextPart part) is t shown e = ap (left_frame s) (sym is) ∙ ap (shown_left s) (sym e)
+    go (Ready rtr) is t shown e = ap (left_frame s) (sym is) ∙ ap (shown_left s) (sym e)
     go NoneDue is t shown e = ap (shown_left s) (sym e)
 
 pub left_told : (table : Table) (s : StreamState) (act : StreamAct Octets) → Sound s → StreamRule table s act → HasLeft (stream_after table s act) (act_left s act)

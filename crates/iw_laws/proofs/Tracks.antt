@@ -65,7 +65,7 @@ use Rattle.iw_stream.specs.Judging.{receiving_turned, is_read_response, is_respo
 use Rattle.iw_stream.specs.Terminating.{terminate_alone, terminate_fetched}
 use Rattle.iw_stream.specs.Starting.{StartState, AtOnce, Unheard, Heard, IsFresh, is_open, expecting, first_place_in, is_responder, awaits_frame, progress_in, heard, agreement_in, answered_with, first_place_out}
 use Rattle.iw_stream.specs.Starting as starting
-use Rattle.iw_stream.specs.Stream.{StreamState, Due, StartUp, LastWord, Response, NextPart, NoneDue, ended, due, answer_refusal, may_answer, keeps_silent, delivery_of, ends_by, place_of, left_out}
+use Rattle.iw_stream.specs.Stream.{StreamState, Due, StartUp, LastWord, Response, NextPart, NoneDue, ended, due, answer_refusal, may_answer, keeps_silent, delivery_of, ends_by, place_of, left_out, Ready}
 use Rattle.iw_stream.specs.declared.ending.Ending.TheVariants.{Over}
 use Rattle.iw_stream.specs.Ending.{has_ended, last_word, with_last_word}
 use Rattle.iw_stream.specs.Work.{inbox, scene, waiting, clashes}
@@ -86,7 +86,7 @@ use Rattle.iw_reads.specs.declared.reads.Outstanding.{Outstanding}
 use Rattle.iw_reads.specs.Outstanding.{response_turn_fault, reads_turned}
 use Rattle.iw_reads.specs.Requests.{Requested, taken_up}
 use Rattle.iw_laws.specs.Turns as turns
-use Rattle.iw_laws.specs.Turns.{Answer, Story, is_silent, hears, frames_in, next_frame, early_frame, was_placed, judged_payload, next_turned, next_reads, asked_in, next_asked, in_order_point, moves_on, terminate_next, terminate_for, segment_out, sends_segment, says_farewell, fetches_for, story_shown, story_after}
+use Rattle.iw_laws.specs.Turns.{Answer, Story, is_silent, hears, frames_in, next_frame, early_frame, was_placed, judged_payload, next_turned, next_reads, asked_in, next_asked, in_order_point, moves_on, terminate_next, terminate_for, segment_out, sends_frame, is_rtr, says_farewell, fetches_for, story_shown, story_after}
 use Rattle.iw_reads.specs.declared.requests.Asked.{Asked}
 use Rattle.iw_memory.specs.declared.rights.Right.TheVariants as rights
 use Rattle.iw_events.specs.declared.act.Shown.TheVariants as shows
@@ -1171,13 +1171,14 @@ pub record StaysHeard (t t' : Story) : Type 0 where
   pub asked : asked_of t' ≡ asked_of t
 
 pub shown_stays : (t : Story) (shown : Shown Octets) → StaysHeard t (story_shown t shown)
-shown_stays t (shows.Frame from octets) = go (nat_lt from (first_place_out t.start)) (last_word t.ending) (segment_out t from octets)
+shown_stays t (shows.Frame from octets) = go (nat_lt from (first_place_out t.start)) (last_word t.ending) (segment_out t from octets) (is_rtr t from)
   where
-    go : (first : Bool) (w : Option Octets) (o : Option (Segment Octets)) → StaysHeard t (cond first t (option_map_or (says_farewell t) w (option_map_or (sends_segment t) o t)))
-    go true w o = record { came = refl; first = refl; was_delivered = refl; strays = refl; start = refl; turns = refl; placed = refl; early = refl; receiving = refl; answered = refl; asked = refl }
-    go false (Some payload) o = record { came = refl; first = refl; was_delivered = refl; strays = refl; start = refl; turns = refl; placed = refl; early = refl; receiving = refl; answered = refl; asked = refl }
-    go false None None = record { came = refl; first = refl; was_delivered = refl; strays = refl; start = refl; turns = refl; placed = refl; early = refl; receiving = refl; answered = refl; asked = refl }
-    go false None (Some segment) = record { came = refl; first = refl; was_delivered = refl; strays = refl; start = refl; turns = refl; placed = refl; early = refl; receiving = refl; answered = refl; asked = refl }
+    go : (first : Bool) (w : Option Octets) (o : Option (Segment Octets)) (ready : Bool) → StaysHeard t (cond first t (option_map_or (says_farewell t) w (option_map_or (sends_frame t ready) o t)))
+    go true w o ready = record { came = refl; first = refl; was_delivered = refl; strays = refl; start = refl; turns = refl; placed = refl; early = refl; receiving = refl; answered = refl; asked = refl }
+    go false (Some payload) o ready = record { came = refl; first = refl; was_delivered = refl; strays = refl; start = refl; turns = refl; placed = refl; early = refl; receiving = refl; answered = refl; asked = refl }
+    go false None None ready = record { came = refl; first = refl; was_delivered = refl; strays = refl; start = refl; turns = refl; placed = refl; early = refl; receiving = refl; answered = refl; asked = refl }
+    go false None (Some segment) true = record { came = refl; first = refl; was_delivered = refl; strays = refl; start = refl; turns = refl; placed = refl; early = refl; receiving = refl; answered = refl; asked = refl }
+    go false None (Some segment) false = record { came = refl; first = refl; was_delivered = refl; strays = refl; start = refl; turns = refl; placed = refl; early = refl; receiving = refl; answered = refl; asked = refl }
 shown_stays t (shows.Fetched from frame stag to octets) = go t.asked.unanswered refl
   where
     go : (waiting : List Asked) → t.asked.unanswered ≡ waiting → StaysHeard t (fetches_for t waiting octets)
@@ -1225,6 +1226,7 @@ emits_any s t (shows.Frame from octets) k = go (due s)
     go (LastWord payload) =
         goes_out s (left_frame s (LastWord payload)) t (tale_after t (Emit (shows.Frame from octets))) refl refl refl refl refl (shown_stays t.story (shows.Frame from octets)) (append-nil t.placings) k (over_joins refl (quiet s t k))
     go (NextPart part) = goes_out s (left_frame s (NextPart part)) t (tale_after t (Emit (shows.Frame from octets))) refl refl refl refl refl (shown_stays t.story (shows.Frame from octets)) (append-nil t.placings) k (quiet s t k)
+    go (Ready rtr) = goes_out s (left_frame s (Ready rtr)) t (tale_after t (Emit (shows.Frame from octets))) refl refl refl refl refl (shown_stays t.story (shows.Frame from octets)) (append-nil t.placings) k (quiet s t k)
     go (Response part) = goes_out s s t (tale_after t (Emit (shows.Frame from octets))) refl refl refl refl refl (shown_stays t.story (shows.Frame from octets)) (append-nil t.placings) k (quiet s t k)
     go NoneDue = goes_out s s t (tale_after t (Emit (shows.Frame from octets))) refl refl refl refl refl (shown_stays t.story (shows.Frame from octets)) (append-nil t.placings) k (quiet s t k)
 emits_any s t (shows.Fetched from frame stag to octets) k =

@@ -17,7 +17,7 @@ use Rattle.iw_startup.specs.State.{IsReached}
 use Rattle.iw_startup.proofs.Reached.{reached-initiator, reached-responder}
 use Rattle.iw_stream.specs.declared.answer.Role.{Role}
 use Rattle.iw_stream.specs.declared.answer.Role.TheVariants.{Preset, Initiator, Responder}
-use Rattle.iw_stream.specs.Starting.{StartState, AtOnce, Unheard, Heard, IsFresh, start_at_first, without_rtr, exceeds_request, sending, expecting}
+use Rattle.iw_stream.specs.Starting.{StartState, AtOnce, Unheard, Heard, IsFresh, start_at_first, exceeds_request, sending, expecting}
 use Rattle.iw_stream.specs.Starting as starting
 use Rattle.iw_untagged.specs.Receiving.{Receiving, sharing}
 use Rattle.iw_stream.specs.Stream.{StreamState, shares, frame_of}
@@ -43,7 +43,7 @@ use Rattle.iw_events.specs.declared.act.Shown.TheVariants.{Frame, Fetched, Fault
 use Rattle.iw_events.specs.declared.act.Entry.{Entry}
 use Rattle.iw_events.specs.declared.act.Seen.TheVariants as seen
 use Rattle.iw_laws.specs.Turns.{story, in_order_point, is_near, first_queue, Pooling, pooling, pool_by}
-use Rattle.iw_laws.specs.Sends.{terminate_segment}
+use Rattle.iw_laws.specs.Sends.{terminate_segment, count_reads}
 use Rattle.std.specs.Prelude.{nat_lt}
 use Rattle.iw_laws.specs.Words.{Octets, other, acts, stream_acts, stream_acts_by, Opening, config_for, no_opening, opening_in, opening_of, domain_of, openings, openings_by, posted, finished_kinds, handed_kinds, size_set, received, ended, sent, sent_by, placings, table_after, OnSome, deed}
 use Rattle.std.specs.Option.{option_map}
@@ -58,13 +58,15 @@ use Rattle.iw_laws.proofs.EarlySent.{none_sent}
 use Rattle.iw_laws.specs.Once.{spans_placed}
 use Rattle.iw_laws.proofs.Spent.{none_spent}
 use Rattle.iw_laws.proofs.Tales.{Tale, tale_of, tale_after, tale-push, stream_acts-push, openings-push, acts_mine, acts_other, pooled, pooling-push, queue_other, queue_unused}
-use Rattle.iw_laws.proofs.Sending.{shown_good, EmitsStart, EmitsLast, EmitsPart, emits_as, terminate_small}
+use Rattle.iw_laws.proofs.Sending.{shown_good, EmitsStart, EmitsLast, EmitsReady, EmitsPart, emits_as, terminate_small, rtr_small}
+use Rattle.iw_laws.proofs.Ready.{ready_in, Apart}
+use Rattle.iw_stream.specs.Rtr.{rtr_segment}
 use Rattle.iw_laws.proofs.Rooms.{opening_fits, last_reason, last_shared}
 use Rattle.iw_laws.proofs.Tracks.{OnStart, start_octets, Track, shown_stays}
 use Rattle.iw_laws.proofs.Left.{equal_has}
 use Rattle.iw_laws.proofs.Releases.{IsLeft, Still, left_apart, nothing_given}
 use Rattle.iw_laws.proofs.Fills.{nothing_placed}
-use Rattle.iw_laws.proofs.Owns.{Own, answers_part, first_fits, Emits, out_of, lives, all_spoken, word_unbroken, runs_unbroken, Unspoken, IsStartOf, past_start}
+use Rattle.iw_laws.proofs.Owns.{same_merges, Own, answers_part, first_fits, Emits, out_of, lives, all_spoken, word_unbroken, runs_unbroken, Unspoken, IsStartOf, past_start}
 use Rattle.iw_laws.proofs.Pools.{told_by, tale, tale_seen, Holds, PoolsSeen, HeldAt, next_held, pools_next, seen_held}
 use Rattle.iw_laws.proofs.Ends.{EndSeen, Opens, end_step, opens, opens_shared, opens_same, at_act, at_same, at_other, number_there, unopened, opening_none, opening_one}
 
@@ -173,7 +175,7 @@ record OpensFit (o : Opening) : Type 0 where
 -- how a stream begins
 reached_at_first : (role : Role) (config : Config) → length config.private.items ≤ 512 → exceeds_request role config ≡ false → OnStart IsReached (start_at_first role config)
 reached_at_first Preset config small fits = tt
-reached_at_first Initiator config small fits = reached-initiator (without_rtr config) (opening_fits config small fits)
+reached_at_first Initiator config small fits = reached-initiator config (opening_fits config small fits)
 reached_at_first Responder config small fits = reached-responder config
 
 fresh_at_first : (role : Role) (config : Config) → IsFresh (start_at_first role config)
@@ -195,14 +197,23 @@ starts_at_first o = go o.role refl
     go Responder e = record { role = sym e }
 
 -- a stream to which nothing has happened
+first_ready : (role : Role) (config : Config) → ready_in (start_at_first role config) ≡ []
+first_ready Preset config = refl
+first_ready Initiator config = refl
+first_ready Responder config = refl
+
 no_emits : (o : Opening) → Emits (connected o).stream (tale_of o [])
 unfolding posted handed_kinds size_set sent story
 no_emits o = record {
   segments = [];
   kept = (connected o).stream.queue;
   before = [];
+  left = [];
+  done = 0;
+  asking = [];
   live = λ h. record { queue = refl; handed = refl };
-  merges = merges_none (connected o).stream.queue refl refl;
+  merges = same_merges refl refl refl refl (λ i. first_ready o.role o.config i ++ []) refl (merges_none (connected o).stream.queue refl refl);
+  spoken = inl refl;
   asks = record { reads = refl; asked = refl; fetched = refl; begun = refl; few = omega arith };
   good = tt;
   framed = Unspoken refl refl;
@@ -232,7 +243,8 @@ no_emits o = record {
     tickets = refl;
   };
   handing = record { order = refl; marked = refl };
-  whole = refl;
+  reads = Apart refl (omega (arith, ap count_reads (first_ready o.role o.config)));
+  whole = omega (arith, ap length (first_ready o.role o.config));
 }
 
 no_track : (o : Opening) → OpensFit o → Track (connected o).stream (tale_of o [])
@@ -460,12 +472,15 @@ few_frame c t o spoken segment small =
 pub emits_few : (opening : Opening) (table : Table) (c : Connected) (t : Tale) (act : StreamAct Octets) → StreamRule table c.stream act → Own opening c t → length (sent_by act) ≤ 2 ^ 17
 emits_few opening table c t (Emit (Frame from octets)) rule o = go (emits_as table c.stream (Frame from octets) rule)
   where
-    go : EmitsStart c.stream from octets ⊎ (EmitsLast c.stream from octets ⊎ EmitsPart c.stream from octets) → length octets ≤ 2 ^ 17
+    go : EmitsStart c.stream from octets ⊎ (EmitsLast c.stream from octets ⊎ (EmitsReady c.stream from octets ⊎ EmitsPart c.stream from octets)) → length octets ≤ 2 ^ 17
     go (inl p) = omega (arith, ap length p.octets_are, few_start c.stream.start o.track.begins.reached)
     go (inr (inl p)) =
         subst (λ z. length z ≤ 2 ^ 17) (sym p.octets_are)
         (few_frame c t o (all_spoken c.stream p.spoken (word_unbroken c.stream.ending p.payload p.is_due)) (terminate_segment p.payload) (omega (arith, terminate_small p.payload (o.emits.parts.short p.payload p.is_due))))
-    go (inr (inr p)) =
+    go (inr (inr (inl p))) =
+        subst (λ z. length z ≤ 2 ^ 17) (sym p.octets_are)
+        (few_frame c t o (all_spoken c.stream p.speaks.spoken (runs_unbroken c.stream.ending p.speaks.running)) (rtr_segment c.stream.numbers p.rtr) (omega (arith, rtr_small c.stream.numbers p.rtr)))
+    go (inr (inr (inr p))) =
         let l = lives c.stream t o.emits p.is_loud.running in
         subst (λ z. length z ≤ 2 ^ 17) (sym p.octets_are)
         (few_frame c t o (all_spoken c.stream p.is_loud.spoken (runs_unbroken c.stream.ending p.is_loud.running)) (segment_of c.stream.numbers p.part) (shown_good c.stream.numbers c.stream.queue c.stream.mulpdu p.part p.is_loud.part_is l.limits o.emits.enough o.emits.few o.emits.numbers (first_fits c.stream.queue l.fit)).small)
@@ -603,6 +618,7 @@ fresh_end x = record {
   domains = fresh_domains;
   numbers = refl;
   wires = refl;
+  none_closed = refl;
   opened = λ n. ap is_some (none_at n);
   domain = λ n h. absurd (false≢true (ap is_some (sym (none_at n)) ∙ h));
   pooled = λ n h. absurd (false≢true (ap is_some (sym (none_at n)) ∙ h));

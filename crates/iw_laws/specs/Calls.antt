@@ -53,8 +53,8 @@ pub record IsNew (table : Table) (pd : ℕ) (stag : Stag) : Type 0 where
 
 abbrev pub number_refusal_by : List (Act Octets) → ℕ → ℕ → Option OpenRefusal
 number_refusal_by before n pd =
-    if was_opened (openings n before) then Some NumberTaken
-    else if nat_le stream_numbers n then Some BadNumber
+    if nat_le stream_numbers n then Some BadNumber
+    else if was_opened (openings n before) then Some NumberTaken
     else if not (is_added (table_after before) pd) then Some NoDomain
     else None
 

@@ -1,5 +1,5 @@
 -- What is answered to the peer's Reads, and what becomes of the answers.
-use Rattle.std.specs.Prelude.{◌≡◌, ℕ, ◌+◌, ◌-◌, ◌≤◌, ◌==◌, min, List, [], ◌∷◌, ◌++◌, length, take, map, false, Some}
+use Rattle.std.specs.Prelude.{◌≡◌, ℕ, ◌+◌, ◌-◌, ◌≤◌, ◌==◌, min, List, [], ◌∷◌, ◌++◌, length, take, map, false, Some, if◌then◌else◌}
 use Rattle.iw_octets.specs.declared.constants.TheConstants.{TAGGED_HEADER}
 use Rattle.iw_octets.specs.declared.fault.Fault.{Fault}
 use Rattle.iw_octets.specs.declared.message.Message.TheVariants.{Write}
@@ -29,7 +29,7 @@ use Rattle.iw_laws.specs.Words.{OnSome, OnStream, AtEach}
 use Rattle.iw_laws.specs.Turns.{Answer, Story, story_of, standing, segment_out, carries_response}
 use Rattle.iw_laws.specs.Merged.{response_segment}
 use Rattle.iw_laws.specs.Safe.{IsHonest}
-use Rattle.iw_laws.specs.Sends.{asked_of}
+use Rattle.iw_laws.specs.Sends.{asked_of, ready_of, count_reads}
 
 -- ---- what is fetched
 
@@ -104,6 +104,10 @@ reads_among [] = []
 reads_among (Posted message ∷ ms) = reads_among ms
 reads_among (Read request ∷ ms) = request ∷ reads_among ms
 
+-- how many responses end with that to the last of so many Reads: the RTR, if it is a Read, was answered before them
+abbrev pub responses_done : List (Request Octets) → ℕ → ℕ
+responses_done ready done = if done == 0 then 0 else count_reads ready + done
+
 -- the Reads that are done were answered, and each octet of the responses to them has been placed; none has been placed more often than
 -- it was fetched
 pub record CoversReads (t : Story) (placed : List (Request Octets)) (done : ℕ) (cell : Cell) : Type 0 where
@@ -111,14 +115,15 @@ pub record CoversReads (t : Story) (placed : List (Request Octets)) (done : ℕ)
   pub before : count_writes cell (map laid (take done t.answers)) ≤ count_writes cell placed
   pub most : count_writes cell placed ≤ count_writes cell (responses t)
 
--- the requests that were read are the first of the Reads that the other end posted, and their responses are placed there
-pub record AnswersReads (t : Story) (posted placed : List (Request Octets)) (done : ℕ) : Type 0 where
-  pub asked : IsPrefixOf (asked_of t) (reads_among posted)
-  pub covers : (cell : Cell) → CoversReads t placed done cell
+-- the requests that were read are the first of the Reads that the other end sent, its RTR before those that were posted, and their
+-- responses are placed there
+pub record AnswersReads (t : Story) (ready posted placed : List (Request Octets)) (done : ℕ) : Type 0 where
+  pub asked : IsPrefixOf (asked_of t) (reads_among (ready ++ posted))
+  pub covers : (cell : Cell) → CoversReads t placed (responses_done ready done) cell
 
 -- at every moment, what an end of an honest stream has answered to the Reads of the other, which has placed it
 abbrev pub Answering : List (Entry Octets) → Type 0
 Answering trace =
     (past future : List (Entry Octets)) → trace ≡ past ++ future → (x : End) (n : ℕ) → IsHonest n past →
     let done : List (StreamAct Octets) = stream_acts n (acts (other x) past) in
-    AnswersReads (story_of n (acts x past)) (posted done) (sunk (placings done)) (count_done (finished_kinds done))
+    AnswersReads (story_of n (acts x past)) (ready_of (story_of n (acts (other x) past))) (posted done) (sunk (placings done)) (count_done (finished_kinds done))

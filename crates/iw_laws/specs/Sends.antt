@@ -1,5 +1,6 @@
 -- What goes out, and when a message is finished.
 use Rattle.std.specs.Prelude.{◌≡◌, ◌≢◌, ◌⊎◌, Bool, true, false, ℕ, ◌+◌, ◌-◌, ◌≤◌, List, [], ◌∷◌, ◌++◌, length, map, take, slice_get, Option, Some, None}
+use Rattle.std.specs.Option.{option_map}
 use Rattle.iw_octets.specs.declared.segment.Segment.{Segment}
 use Rattle.iw_octets.specs.declared.segment.Segment.TheVariants.{Untagged}
 use Rattle.iw_octets.specs.Segment.{segment_octets, FitsSegment}
@@ -22,9 +23,10 @@ use Rattle.iw_events.specs.declared.act.Shown.{Shown}
 use Rattle.iw_events.specs.declared.act.Shown.TheVariants.{Frame, Fetched, Fault as Denied, Nothing}
 use Rattle.iw_events.specs.declared.act.Entry.{Entry}
 use Rattle.iw_stream.specs.Ending.{is_broken, last_word}
-use Rattle.iw_laws.specs.Words.{Octets, acts, deed, stream_acts, posted, handed_kinds, ended, sent, size_set}
-use Rattle.iw_stream.specs.Starting.{is_open, sending, own_frame, most_reads_in}
-use Rattle.iw_laws.specs.Turns.{Story, story_of, is_silent, is_last}
+use Rattle.iw_laws.specs.Words.{Octets, acts, deed, stream_acts, posted, handed_kinds, ended, sent, size_set, listed}
+use Rattle.iw_stream.specs.Rtr.{rtr_message}
+use Rattle.iw_stream.specs.Starting.{is_open, sending, own_frame, most_reads_in, rtr_in}
+use Rattle.iw_laws.specs.Turns.{Story, story_of, is_silent, is_last, is_rtr}
 use Rattle.iw_laws.specs.Merged.{Item, AreMerged, posts_in, answers_in, octets_of, responded}
 use Rattle.iw_laws.specs.Words.{OnSome, OnStream, AtEach}
 
@@ -36,6 +38,10 @@ pub record AreFrames (t : Story) (octets : Octets) (items : List Item) : Type 0 
   pub segments : List (Segment Octets)
   pub carry : AreMerged first_numbers 0 items segments
   pub framed : octets ≡ own_frame t.start ++ sequence (sending t.start) 0 (map segment_octets segments)
+
+-- the RTR, if one is agreed on: it goes out before all that was posted (RFC 6581 9.2)
+abbrev pub ready_of : Story → List (Request Octets)
+ready_of t = listed (option_map rtr_message (rtr_in t.start))
 
 -- the Reads that the peer asked for, in order
 abbrev pub asked_of : Story → List ReadRequest
@@ -53,12 +59,12 @@ abbrev pub farewells : Option Octets → List (Segment Octets)
 farewells None = []
 farewells (Some payload) = terminate_segment payload ∷ []
 
--- these octets are the start-up frame and the frames of the first of the segments that carry what was posted, in order, and the
+-- these octets are the start-up frame and the frames of the first of the segments that carry the RTR and what was posted, in order, and the
 -- responses to what the peer asked for, in order; of the responses those have exactly the octets that were fetched; and past them the
 -- frame of a Terminate, if one went out; or there are no octets
 pub record AreFirstFrames (t : Story) (octets : Octets) (messages : List (Request Octets)) : Type 0 where
   pub items : List Item
-  pub posts : posts_in items ≡ messages
+  pub posts : posts_in items ≡ ready_of t ++ messages
   pub answers : map (λ a. a.request) (answers_in items) ≡ asked_of t
   pub begun : List (Segment Octets)
   pub later : List (Segment Octets)
@@ -74,10 +80,10 @@ Emission trace =
     (past future : List (Entry Octets)) → trace ≡ past ++ future → (x : End) (n : ℕ)
     → AreFirstFrames (story_of n (acts x past)) (sent (stream_acts n (acts x past))) (posted (stream_acts n (acts x past)))
 
--- these octets are all frames of these messages and of the responses, and no request of the peer waits
+-- these octets are all frames of the RTR, of these messages and of the responses, and no request of the peer waits
 pub record AreAllFrames (t : Story) (octets : Octets) (messages : List (Request Octets)) : Type 0 where
   pub items : List Item
-  pub posts : posts_in items ≡ messages
+  pub posts : posts_in items ≡ ready_of t ++ messages
   pub answers : answers_in items ≡ t.answers
   pub none_waits : t.asked.unanswered ≡ []
   pub frames : AreFrames t octets items
@@ -130,23 +136,27 @@ pub record IsLastWord (t : Story) (before octets : Octets) : Type 0 where
   pub is_due : last_word t.ending ≡ Some payload
   pub is : octets ≡ frame_octets (sending t.start) (length before - length (own_frame t.start)) (segment_octets (terminate_segment payload))
 
+-- a response may: the RTR, if one is agreed on, goes before it too
+abbrev pub MayRespond : Bool → Story → Octets → Type 0
+MayRespond over t before = MaySend over t × (is_rtr t (length before) ≡ false)
+
 abbrev pub FrameAllowed : Bool → Story → Octets → Shown Octets → Type 0
 FrameAllowed over t before (Frame from octets) = IsStartFrame t before octets ⊎ (IsLastWord t before octets ⊎ MaySend over t)
-FrameAllowed over t before (Fetched from frame stag to octets) = MaySend over t
-FrameAllowed over t before (Denied fault) = MaySend over t
+FrameAllowed over t before (Fetched from frame stag to octets) = MayRespond over t before
+FrameAllowed over t before (Denied fault) = MayRespond over t before
 FrameAllowed over t before Nothing = Unit {0}
 
 abbrev pub SpeaksStream : List (Act Octets) → ℕ → StreamAct Octets → Type 0
 SpeaksStream before n act =
     OnSome (FrameAllowed (ended (stream_acts n before)) (story_of n before) (sent (stream_acts n before))) (deed act).shown
 
--- but for the start-up frame and the Terminate that is due, a frame goes out only where one may be sent
+-- but for the start-up frame and the Terminate that is due, a frame goes out only where one may be sent, and a response behind the RTR
 abbrev pub Speaks : List (Entry Octets) → Type 0
 Speaks = AtEach (OnStream SpeaksStream)
 
 -- ---- nothing
 
--- why nothing is emitted: the stream has ended, or is not open, or keeps silent; or all that was posted has been sent; or all
+-- why nothing is emitted: the stream has ended, or is not open, or keeps silent; or the RTR and all that was posted have been sent; or all
 -- before a Read, which waits since as many are outstanding as both ends agreed on
 pub data HasNothing (over : Bool) (t : Story) (octets : Octets) (messages : List (Request Octets)) : Type 0 where
   Over : over ≡ true → HasNothing over t octets messages
@@ -174,10 +184,10 @@ NothingOnlyAtRest = AtEach (OnStream NothingStream)
 
 -- ---- finished messages
 
--- what went out begins with all frames of these messages, and of responses among them
+-- what went out begins with all frames of the RTR and of these messages, and of responses among them
 pub record AreSent (t : Story) (octets : Octets) (messages : List (Request Octets)) : Type 0 where
   pub items : List Item
-  pub posts : posts_in items ≡ messages
+  pub posts : posts_in items ≡ ready_of t ++ messages
   pub first : Octets
   pub frames : AreFrames t first items
   pub begins : IsPrefixOf first octets
@@ -187,10 +197,10 @@ count_reads [] = 0
 count_reads (Posted message ∷ ms) = count_reads ms
 count_reads (Read request ∷ ms) = count_reads ms + 1
 
--- of a Read the last frame of its response had its turn: of the messages up to it, as many Reads were answered as there are
+-- of a Read the last frame of its response had its turn: of the RTR and the messages up to it, as many Reads were answered as there are
 abbrev pub IsAnswered : Story → List (Request Octets) → Request Octets → Type 0
 IsAnswered t sofar (Posted message) = Unit {0}
-IsAnswered t sofar (Read request) = count_reads sofar ≤ t.answered
+IsAnswered t sofar (Read request) = count_reads (ready_of t ++ sofar) ≤ t.answered
 
 -- of what was posted, the message with k before it is of this kind, and has been sent to its last segment; a Read was answered
 pub record IsSentMessage (t : Story) (octets : Octets) (messages : List (Request Octets)) (k : ℕ) (kind : Kind) : Type 0 where

@@ -45,7 +45,7 @@ use Rattle.iw_stream.specs.declared.ending.Ending.TheVariants.{Runs, Over, Broke
 use Rattle.iw_stream.specs.Ending.{last_word, with_last_word}
 use Rattle.iw_stream.specs.Judging.{Standing, verdict, early_verdict, turn_of, receiving_turned, reads_left}
 use Rattle.iw_stream.specs.Terminating.{terminate_alone, terminate_judged, terminate_turned, terminate_fetched}
-use Rattle.iw_stream.specs.Starting.{StartState, start_at_first, is_open, sending, expecting, first_place_in, first_place_out, is_responder, awaits_frame, progress_in, heard, private_in, told_in, agreement_in, mismatch_in, negotiation_fault, answered_with}
+use Rattle.iw_stream.specs.Starting.{StartState, start_at_first, is_open, sending, expecting, first_place_in, first_place_out, is_responder, awaits_frame, progress_in, heard, private_in, told_in, agreement_in, mismatch_in, negotiation_fault, answered_with, rtr_in}
 use Rattle.iw_stream.specs.Work.{clash_fault}
 use Rattle.iw_events.specs.declared.act.Act.{Act}
 use Rattle.iw_events.specs.declared.act.Act.TheVariants.{Domain, Register, Deregister, Invalidate, Store, Open, Share, Pool, Unpool, OpenShared, Stream}
@@ -253,7 +253,7 @@ read_out (Untagged head payload) =
 abbrev pub sends_segment : Story → Segment Octets → Story
 sends_segment t segment = record t {
   whole = if is_last segment then t.whole + 1 else t.whole;
-  reads = option_map_or (asked_for t.reads (t.whole % 2 ^ 64)) (read_out segment) t.reads;
+  reads = option_map_or (asked_for t.reads (Some (t.whole % 2 ^ 64))) (read_out segment) t.reads;
 }
 
 -- octets are fetched for the oldest request that waits
@@ -274,11 +274,22 @@ fetches_for t (oldest ∷ others) octets =
 abbrev pub says_farewell : Story → Octets → Story
 says_farewell t payload = record t { ending = Over None; farewell = Some payload }
 
+-- the RTR, if one is agreed on, is the first frame past the start-up frame
+abbrev pub is_rtr : Story → ℕ → Bool
+is_rtr t from = is_some (rtr_in t.start) && (from == first_place_out t.start)
+
+-- it is no message that was posted; a Read is outstanding
+abbrev pub sends_rtr : Story → Segment Octets → Story
+sends_rtr t segment = record t { reads = option_map_or (asked_for t.reads None) (read_out segment) t.reads }
+
+abbrev pub sends_frame : Story → Bool → Segment Octets → Story
+sends_frame t ready segment = if ready then sends_rtr t segment else sends_segment t segment
+
 -- the start-up frame goes first, and the Terminate past all others
 abbrev pub frame_shown : Story → ℕ → Octets → Story
 frame_shown t from octets =
     if nat_lt from (first_place_out t.start) then t
-    else option_map_or (says_farewell t) (last_word t.ending) (option_map_or (sends_segment t) (segment_out t from octets) t)
+    else option_map_or (says_farewell t) (last_word t.ending) (option_map_or (sends_frame t (is_rtr t from)) (segment_out t from octets) t)
 
 abbrev pub story_shown : Story → Shown Octets → Story
 story_shown t (shows.Frame from octets) = frame_shown t from octets

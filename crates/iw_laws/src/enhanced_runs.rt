@@ -3,6 +3,8 @@
 ghost use Rattle.iw_laws.specs.EnhancedRuns.{RefusesReadPosted, RefusesReadPastOrd, RefusesOpenedUnfit};
 ghost use Rattle.iw_laws.specs.EnhancedRuns.{RefusesFaultFit, RefusesHiddenWord};
 ghost use Rattle.iw_laws.specs.EnhancedRuns.{RefusesLongAnswer, RefusesLongRequest};
+ghost use Rattle.iw_laws.specs.EnhancedRuns.{RefusesRtrOvertaken, RefusesResponseBeforeRtr};
+ghost use Rattle.iw_laws.specs.EnhancedRuns.{RefusesRtrWithheld, RefusesDoneByRtr};
 
 /// A Read is not taken if the peer takes none.
 pub fn refuses_read_posted()
@@ -37,4 +39,24 @@ pub fn refuses_long_answer()
 /// Nor has a Request.
 pub fn refuses_long_request()
     ensures { RefusesLongRequest }
+{}
+
+/// No message goes out before the RTR.
+pub fn refuses_rtr_overtaken()
+    ensures { RefusesRtrOvertaken }
+{}
+
+/// Nor does a response.
+pub fn refuses_response_before_rtr()
+    ensures { RefusesResponseBeforeRtr }
+{}
+
+/// The RTR is not held back.
+pub fn refuses_rtr_withheld()
+    ensures { RefusesRtrWithheld }
+{}
+
+/// The response to an RTR that is a Read finishes no Read that was posted.
+pub fn refuses_done_by_rtr()
+    ensures { RefusesDoneByRtr }
 {}

@@ -3,7 +3,7 @@
 ghost use Rattle.std.specs.Prelude.{◌≡◌, ◌≢◌, ◌+◌, ◌%◌, ◌<◌, ◌≤◌, ◌^◌, true, false, length, take, is_some, IfOk, IfErr, OnOk};
 ghost use Rattle.iw_events.specs.declared.act.Seen.TheVariants.{Received};
 ghost use Rattle.iw_events.specs.Events.{stream_call_of};
-ghost use Rattle.iw_endpoint.specs.Endpoint.{has_stream, stream_at, private_at, told_at};
+ghost use Rattle.iw_endpoint.specs.Endpoint.{stream_numbers, has_stream, stream_at, private_at, told_at};
 ghost use Rattle.iw_laws.specs.Bounds.{IsShort};
 ghost use Rattle.iw_laws.specs.Rules.{needs_peer, seen_of};
 ghost use Rattle.iw_events.specs.declared.act.Act.{Act};
@@ -61,6 +61,7 @@ impl<A: Allocator + Copy> Host<A> {
         call: &StreamCall<Bytes<A>>,
     ) -> Result<StreamAct<Bytes<A>>, Failure>
         requires there { has_stream self.old.endpoint number ≡ true }
+        requires numbers { length self.old.endpoint.streams ≡ stream_numbers }
         requires short { IsShort (stream_at self.old.endpoint number) }
         requires wire { length wire.now ≤ 2 ^ 62 }
         ensures rule { IfOk result (λ act. EndRule self.old.endpoint (Act.Stream number act)) }
@@ -96,7 +97,7 @@ impl<A: Allocator + Copy> Host<A> {
         ensures failure { IfErr result (λ failure. failure ≡ Failure.NoMemory) }
     {
         let buffer = vec![in alloc; 0; len as usize]?;
-        let refused = stream::post_recv(&mut self.endpoint, number, buffer)?;
+        let refused = stream::post_recv(&mut self.endpoint, u32::from(number), buffer)?;
         Ok(StreamAct::Recv { len, refused })
     }
 
@@ -112,7 +113,7 @@ impl<A: Allocator + Copy> Host<A> {
         ensures failure { IfErr result (λ failure. failure ≡ Failure.NoMemory) }
     {
         known(message);
-        let refused = stream::post(&mut self.endpoint, number, shared(message)?)?;
+        let refused = stream::post(&mut self.endpoint, u32::from(number), shared(message)?)?;
         Ok(StreamAct::Post {
             message: shared(message)?,
             refused,
@@ -121,13 +122,13 @@ impl<A: Allocator + Copy> Host<A> {
 
     fn emit(&mut self, alloc: A, number: u8) -> Result<StreamAct<Bytes<A>>, Failure>
         requires there { has_stream self.old.endpoint number ≡ true }
+        requires numbers { length self.old.endpoint.streams ≡ stream_numbers }
         requires short { IsShort (stream_at self.old.endpoint number) }
         ensures rule { IfOk result (λ act. EndRule self.old.endpoint (Act.Stream number act)) }
         ensures call { IfOk result (λ act. stream_call_of act ≡ StreamCall.Emit) }
         ensures state { IfOk result (λ act. self.new ≡ end_after self.old (Act.Stream number act)) }
         ensures failure { IfErr result (λ failure. failure ≡ Failure.NoMemory) }
     {
-        self.endpoint.limits(number).ok();
         let wire = &mut self.wires[number as usize];
         let shown = wire.emit(alloc, &mut self.endpoint, number)?;
         Ok(StreamAct::Emit(shown))
@@ -157,8 +158,8 @@ impl<A: Allocator + Copy> Host<A> {
         let start = from as usize;
         let octets = &wire[start..start + len as usize];
         let copy = Bytes::copy_from_slice(alloc, octets)?;
-        let handed_in = number_of(stream::first_of(&self.endpoint, number), from);
-        let delivery = stream::deliver(&mut self.endpoint, number, handed_in, octets)?;
+        let handed_in = number_of(stream::first_of(&self.endpoint, u32::from(number)), from);
+        let delivery = stream::deliver(&mut self.endpoint, u32::from(number), handed_in, octets)?;
         Ok(StreamAct::Deliver {
             from,
             number: handed_in,
@@ -180,7 +181,8 @@ impl<A: Allocator + Copy> Host<A> {
         ensures failure { IfErr result (λ failure. failure ≡ Failure.NoMemory) }
     {
         let copy = octets.clone()?;
-        let delivery = stream::deliver(&mut self.endpoint, number, from, octets.as_slice())?;
+        let octets = octets.as_slice();
+        let delivery = stream::deliver(&mut self.endpoint, u32::from(number), from, octets)?;
         Ok(StreamAct::Raw {
             number: from,
             octets: copy,
@@ -194,7 +196,7 @@ impl<A: Allocator + Copy> Host<A> {
         ensures call { stream_call_of result ≡ StreamCall.First first }
         ensures state { self.new ≡ end_after self.old (Act.Stream number result) }
     {
-        let refused = stream::set_first(&mut self.endpoint, number, first);
+        let refused = stream::set_first(&mut self.endpoint, u32::from(number), first);
         StreamAct::First {
             number: first,
             refused,
@@ -207,7 +209,7 @@ impl<A: Allocator + Copy> Host<A> {
         ensures call { stream_call_of result ≡ StreamCall.Mulpdu size }
         ensures state { self.new ≡ end_after self.old (Act.Stream number result) }
     {
-        let refused = stream::set_mulpdu(&mut self.endpoint, number, size);
+        let refused = stream::set_mulpdu(&mut self.endpoint, u32::from(number), size);
         StreamAct::Mulpdu { size, refused }
     }
 
@@ -220,7 +222,7 @@ impl<A: Allocator + Copy> Host<A> {
     {
         let copy = private.clone()?;
         let reply = private_data(private.as_slice());
-        let answer = stream::accept(&mut self.endpoint, number, reply);
+        let answer = stream::accept(&mut self.endpoint, u32::from(number), reply);
         Ok(StreamAct::Accept {
             private: copy,
             answer,
@@ -236,7 +238,7 @@ impl<A: Allocator + Copy> Host<A> {
     {
         let copy = private.clone()?;
         let reply = private_data(private.as_slice());
-        let refused = stream::reject(&mut self.endpoint, number, reply);
+        let refused = stream::reject(&mut self.endpoint, u32::from(number), reply);
         Ok(StreamAct::Reject {
             private: copy,
             refused,
@@ -251,7 +253,7 @@ impl<A: Allocator + Copy> Host<A> {
         ensures state { IfOk result (λ act. self.new ≡ end_after self.old (Act.Stream number act)) }
         ensures failure { IfErr result (λ failure. failure ≡ Failure.NoMemory) }
     {
-        let step = stream::work(&mut self.endpoint, number)?;
+        let step = stream::work(&mut self.endpoint, u32::from(number))?;
         let seen = seen(alloc, &self.endpoint, number, step)?;
         Ok(StreamAct::Work(seen))
     }
@@ -263,7 +265,7 @@ impl<A: Allocator + Copy> Host<A> {
         ensures state { IfOk result (λ act. self.new ≡ end_after self.old (Act.Stream number act)) }
         ensures failure { IfErr result (λ failure. failure ≡ Failure.NoMemory) }
     {
-        stream::break_link(&mut self.endpoint, number);
+        stream::break_link(&mut self.endpoint, u32::from(number));
         Ok(StreamAct::Break)
     }
 }
@@ -367,7 +369,7 @@ fn peers_word<A: Allocator>(endpoint: &Endpoint<A>, number: u8) -> Option<Enhanc
     requires { has_stream endpoint.now number ≡ true }
     ensures { result ≡ told_at endpoint.now number }
 {
-    match endpoint.told(number) {
+    match endpoint.told(u32::from(number)) {
         Ok(told) => told,
         Err(_) => unreachable!(),
     }
@@ -382,7 +384,7 @@ fn peers_private<A: Allocator + Copy>(
     requires { has_stream endpoint.now number ≡ true }
     ensures { IfOk result (λ private. private ≡ private_at endpoint.now number) }
 {
-    match endpoint.private(number) {
+    match endpoint.private(u32::from(number)) {
         Ok(private) => Bytes::copy_from_slice(alloc, private),
         Err(_) => unreachable!(),
     }

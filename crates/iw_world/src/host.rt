@@ -57,7 +57,7 @@ impl<A: Allocator + Copy> Host<A> {
     pub(crate) fn has_stream(&self, number: u8) -> bool
         ensures there { result ≡ has_stream self.now.endpoint number }
     {
-        self.endpoint.sent(number).is_ok()
+        self.endpoint.sent(u32::from(number)).is_ok()
     }
 
     /// What the stream of this number emitted; nothing if none was opened.
@@ -264,7 +264,7 @@ fn open<A: Allocator + Copy>(
     ensures state { IfOk result (λ refused. endpoint.new ≡ after endpoint.old (calls.Open number pd role config)) }
     ensures failure { IfErr result (λ failure. failure ≡ Failure.NoMemory) }
 {
-    match endpoint.open(number, pd, role, config) {
+    match endpoint.open(u32::from(number), pd, role, config) {
         Ok(()) => Ok(None),
         Err(OpenRefusal::NoMemory) => Err(Failure::NoMemory),
         Err(refusal) => Ok(Some(refusal)),

@@ -136,7 +136,7 @@ fn open_shared<A: Allocator + Copy>(
         ≡ after endpoint.old (calls.OpenShared number pd role config)) }
     ensures failure { IfErr result (λ failure. failure ≡ Failure.NoMemory) }
 {
-    match endpoint.open_shared(number, pd, role, config) {
+    match endpoint.open_shared(u32::from(number), pd, role, config) {
         Ok(()) => Ok(None),
         Err(OpenSharedRefusal::NoMemory) => Err(Failure::NoMemory),
         Err(refusal) => Ok(Some(refusal)),

@@ -23,7 +23,7 @@ use std::alloc::Allocator;
 /// Posts a receive buffer.
 pub(crate) fn post_recv<A: Allocator>(
     endpoint: &mut Endpoint<A>,
-    number: u8,
+    number: u32,
     buffer: Vec<u8, A>,
 ) -> Result<Option<RecvRefusal>, Failure>
     requires { has_stream endpoint.old number ≡ true }
@@ -43,7 +43,7 @@ pub(crate) fn post_recv<A: Allocator>(
 /// Posts a message or a Read.
 pub(crate) fn post<A: Allocator>(
     endpoint: &mut Endpoint<A>,
-    number: u8,
+    number: u32,
     request: Request<Bytes<A>>,
 ) -> Result<Option<PostRefusal>, Failure>
     requires { has_stream endpoint.old number ≡ true }
@@ -64,7 +64,7 @@ pub(crate) fn post<A: Allocator>(
 /// Sets the sequence number of the peer's first octet.
 pub(crate) fn set_first<A: Allocator>(
     endpoint: &mut Endpoint<A>,
-    number: u8,
+    number: u32,
     first: u32,
 ) -> Option<FirstRefusal>
     requires { has_stream endpoint.old number ≡ true }
@@ -79,7 +79,7 @@ pub(crate) fn set_first<A: Allocator>(
 }
 
 /// The sequence number of the peer's first octet.
-pub(crate) fn first_of<A: Allocator>(endpoint: &Endpoint<A>, number: u8) -> u32
+pub(crate) fn first_of<A: Allocator>(endpoint: &Endpoint<A>, number: u32) -> u32
     requires { has_stream endpoint.now number ≡ true }
     ensures { result ≡ (stream_at endpoint.now number).first }
 {
@@ -92,7 +92,7 @@ pub(crate) fn first_of<A: Allocator>(endpoint: &Endpoint<A>, number: u8) -> u32
 /// Delivers octets; the first has this sequence number.
 pub(crate) fn deliver<A: Allocator>(
     endpoint: &mut Endpoint<A>,
-    number: u8,
+    number: u32,
     from: u32,
     octets: &[u8],
 ) -> Result<Delivery, Failure>
@@ -113,7 +113,7 @@ pub(crate) fn deliver<A: Allocator>(
 /// Sets the maximum ULPDU of what is emitted.
 pub(crate) fn set_mulpdu<A: Allocator>(
     endpoint: &mut Endpoint<A>,
-    number: u8,
+    number: u32,
     size: u32,
 ) -> Option<SizeRefusal>
     requires { has_stream endpoint.old number ≡ true }
@@ -130,7 +130,7 @@ pub(crate) fn set_mulpdu<A: Allocator>(
 /// Accepts the pending Request: returns what was agreed, or why not.
 pub(crate) fn accept<A: Allocator>(
     endpoint: &mut Endpoint<A>,
-    number: u8,
+    number: u32,
     private: PrivateData,
 ) -> Result<Agreed, AnswerRefusal>
     requires { has_stream endpoint.old number ≡ true }
@@ -149,7 +149,7 @@ pub(crate) fn accept<A: Allocator>(
 /// Rejects the pending Request: returns why not, if it is refused.
 pub(crate) fn reject<A: Allocator>(
     endpoint: &mut Endpoint<A>,
-    number: u8,
+    number: u32,
     private: PrivateData,
 ) -> Option<AnswerRefusal>
     requires { has_stream endpoint.old number ≡ true }
@@ -166,7 +166,7 @@ pub(crate) fn reject<A: Allocator>(
 /// Does one step.
 pub(crate) fn work<A: Allocator>(
     endpoint: &mut Endpoint<A>,
-    number: u8,
+    number: u32,
 ) -> Result<Step<Octets<A>>, Failure>
     requires there { has_stream endpoint.old number ≡ true }
     requires short { IsShort (stream_at endpoint.old number) }
@@ -182,7 +182,7 @@ pub(crate) fn work<A: Allocator>(
 }
 
 /// Reports that the stream's link broke.
-pub(crate) fn break_link<A: Allocator>(endpoint: &mut Endpoint<A>, number: u8)
+pub(crate) fn break_link<A: Allocator>(endpoint: &mut Endpoint<A>, number: u32)
     requires { has_stream endpoint.old number ≡ true }
     ensures { endpoint.new ≡ after endpoint.old (calls.AtStream number calls.BreakLink) }
 {

@@ -94,7 +94,7 @@ fn emission<A: Allocator + Copy>(
     ensures wire { OnOk result (wire.new.items ≡ wire.old.items ++ emitted_at endpoint.old number) }
     ensures failure { IfErr result (λ failure. failure ≡ Failure.NoMemory) }
 {
-    match endpoint.emit(number, wire) {
+    match endpoint.emit(u32::from(number), wire) {
         Ok(emission) => Ok(emission),
         Err(CallRefusal::Refused(_)) => Err(Failure::NoMemory),
         Err(CallRefusal::NoSuchStream) => unreachable!(),
