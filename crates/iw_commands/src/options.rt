@@ -31,7 +31,7 @@ impl Options {
         ensures { result ≡ terms_at self stream }
     {
         Terms {
-            number: stream,
+            number: u32::from(stream),
             markers: self.markers,
             crc: self.crc,
             establishment: self.establishment(),

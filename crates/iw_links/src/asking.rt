@@ -13,12 +13,13 @@ use crate::output::Output;
 use crate::plan::{Part, Plan};
 use crate::report::Report;
 use bytes::Bytes;
+use iw_connection::StreamNumber;
 use iw_endpoint::{Endpoint, Message, OpenRefusal, Request, Role, Stag};
 use std::alloc::Global;
 use std::io::{Read, Write};
 
 // The STag that the Reply named.
-fn named_region(endpoint: &Endpoint, number: u8) -> Result<Stag, Broken>
+fn named_region(endpoint: &Endpoint, number: StreamNumber) -> Result<Stag, Broken>
     ensures length { OnOk result (length (private_at endpoint.now number) ≡ 4) }
     ensures stag { IfOk result (λ stag. stag ≡ stag_at (private_at endpoint.now number) 0) }
 {

@@ -9,6 +9,7 @@ use crate::link::{Broken, Link, Stop, deliver, emit_all, work_all};
 use crate::plan::Plan;
 use crate::report::Report;
 use bytes::Bytes;
+use iw_connection::StreamNumber;
 use iw_endpoint::{Config, Endpoint, Establishment, Message, PrivateData, Request};
 use iw_output::write_octets;
 use std::io::{Read, Write};
@@ -17,7 +18,7 @@ use std::io::{Read, Write};
 #[derive(Clone, Copy, Debug, PartialEq, Eq)]
 pub struct Terms {
     /// Its number: 0 to 63.
-    pub number: u8,
+    pub number: StreamNumber,
     /// The peer is asked to put markers into what it sends.
     pub markers: bool,
     /// The peer is asked for CRCs in both directions.

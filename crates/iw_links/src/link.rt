@@ -11,9 +11,8 @@ ghost use Rattle.iw_links.specs.Standing.{standing, told_in, plan_of, phase_of, 
 use crate::plan::Plan;
 use crate::report::{Ended, Report};
 use bytes::Bytes;
-use iw_endpoint::{
-    Emission, Endpoint, MAX_PLACE, Octets, PrivateData, Request, Rights, Stag, Step,
-};
+use iw_connection::{Filled, fill, next};
+use iw_endpoint::{Endpoint, Octets, PrivateData, Request, Rights, Stag, Step};
 use std::alloc::{AllocError, Global};
 
 /// The protection domain of all connections.
@@ -232,28 +231,24 @@ fn accept(plan: &Plan<'_>, endpoint: &mut Endpoint, link: &Link) -> Result<(), B
     }
 }
 
-// Does one step of work. Returns what to do next. An `Err` changes nothing.
+// Works to the next step that has to be acted on, and takes note of it. Returns what to do next.
 fn step(plan: &Plan<'_>, endpoint: &mut Endpoint, link: &mut Link) -> Result<Next, Broken>
     ensures ok { IfOk result (λ next. (k : ℕ) → Did (plan_of plan.now)
         (standing endpoint.old link.old Working k) (standing endpoint.new link.new (phase_of next) k) [] []) }
-    ensures err { OnErr result (endpoint.new ≡ endpoint.old) }
-    ensures link { OnErr result (link.new ≡ link.old) }
+    ensures err { OnErr result ((k : ℕ) → Did (plan_of plan.now)
+        (standing endpoint.old link.old Working k) (standing endpoint.new link.new Working k) [] []) }
 {
-    match endpoint.in_order_point(plan.terms.number) {
-        Ok(point) if point <= MAX_PLACE => {}
-        _ => return Err(Broken),
-    }
-    match endpoint.work(plan.terms.number) {
+    match next(endpoint, plan.terms.number) {
         Ok(step) => {
-            let next = Next::of(&step);
+            let after = Next::of(&step);
             link.tell(step);
-            Ok(next)
+            Ok(after)
         }
         Err(_) => Err(Broken),
     }
 }
 
-// What to do after a step of work.
+// What to do after a step that has to be acted on.
 #[derive(Clone, Copy, Debug, PartialEq, Eq)]
 enum Next {
     // The peer's Request is to be answered.
@@ -278,7 +273,8 @@ impl Next {
     }
 }
 
-// Does one step of work, and accepts the peer's Request if it is pending then. Returns whether there is nothing to do.
+// Works to the next step that has to be acted on, and accepts the peer's Request if that is pending then. Returns whether
+// there is nothing to do.
 fn work_on(plan: &Plan<'_>, endpoint: &mut Endpoint, link: &mut Link) -> Result<bool, Stop>
     ensures ok { IfOk result (λ rests. (k : ℕ) → Did (plan_of plan.now) (standing endpoint.old link.old Working k)
         (standing endpoint.new link.new (if rests then Speaking else Working) k) [] []) }
@@ -319,7 +315,7 @@ pub(crate) fn work_all(
     Err(Stop::Broken)
 }
 
-// Emits what is due next. Returns whether something was due, or the stream ended. An `Err` changes nothing.
+// Emits what is due. Returns whether more may be due: the Terminate, if the stream ended.
 fn emit(
     plan: &Plan<'_>,
     endpoint: &mut Endpoint,
@@ -328,19 +324,13 @@ fn emit(
 ) -> Result<bool, Broken>
     ensures ok { IfOk result (λ more. (k : ℕ) → Emits (plan_of plan.now) (standing endpoint.old link.old Speaking k)
         (standing endpoint.new link.new (if more then Speaking else Listening) k) out.old.items out.new.items) }
-    ensures err { OnErr result (endpoint.new ≡ endpoint.old) }
-    ensures link { OnErr result (link.new ≡ link.old) }
-    ensures out { OnErr result (out.new.items ≡ out.old.items) }
+    ensures err { OnErr result ((k : ℕ) → Emits (plan_of plan.now) (standing endpoint.old link.old Speaking k)
+        (standing endpoint.new link.new Speaking k) out.old.items out.new.items) }
 {
-    match endpoint.sent(plan.terms.number) {
-        Ok(sent) if sent <= MAX_PLACE => {}
-        _ => return Err(Broken),
-    }
-    match endpoint.emit(plan.terms.number, out) {
-        Ok(Emission::Nothing) => Ok(false),
-        Ok(Emission::Frame { .. }) => Ok(true),
-        Ok(Emission::Fetched { .. }) => Ok(true),
-        Ok(Emission::Fault(fault)) => {
+    match fill(endpoint, plan.terms.number, out, usize::MAX) {
+        Ok(Filled::All) => Ok(false),
+        Ok(Filled::More) => Ok(true),
+        Ok(Filled::Fault(fault)) => {
             link.ended = Some(Ended::Fault(fault));
             Ok(true)
         }
@@ -360,7 +350,7 @@ pub(crate) fn emit_all(
     ensures err { OnErr result ((k : ℕ) → Emits (plan_of plan.now) (standing endpoint.old link.old Speaking k)
         (standing endpoint.new link.new Speaking k) out.old.items out.new.items) }
 {
-    'frames: for _ in 0..u64::MAX {
+    'rounds: for _ in 0..u64::MAX {
         match emit(plan, endpoint, link, out) {
             Ok(true) => {}
             Ok(false) => return Ok(()),
