@@ -228,21 +228,29 @@ enum {
 enum {
     IWARP_MARKERS = 1, /* the peer is to put markers into what it sends */
     IWARP_CRC = 2, /* CRCs are to be used, in both directions */
-    IWARP_ENHANCED = 4 /* revision 2 of MPA (RFC 6581), whose start-up frames tell how many Reads each end takes */
+    IWARP_ENHANCED = 4, /* revision 2 of MPA (RFC 6581), whose start-up frames tell how many Reads each end takes */
+    IWARP_PEER_TO_PEER = 8 /* the peer-to-peer model (RFC 6581 9.2): of an initiator, with IWARP_ENHANCED */
 };
 
 /* What both ends agree on. */
 enum {
     IWARP_SENDS_MARKERS = 1,
     IWARP_EXPECTS_MARKERS = 2,
-    IWARP_USES_CRC = 4
+    IWARP_USES_CRC = 4,
+    IWARP_RTR_WRITE = 8, /* this end first sends an RTR, a Write of no octets */
+    IWARP_RTR_READ = 16 /* this end first sends an RTR, a Read of no octets */
 };
 
 /* Opens a stream in a domain under a number from 0 to 63, which no later stream of this handle can have. `options` is a
- * sum of IWARP_MARKERS, IWARP_CRC and IWARP_ENHANCED. The private data goes into an initiator's MPA Request; other
+ * sum of IWARP_MARKERS, IWARP_CRC and so on. The private data goes into an initiator's MPA Request; other
  * roles do not use it. With IWARP_ENHANCED an initiator's Request has revision 2, and a responder takes a Request of
  * revision 1 or 2 and answers in kind; without it both ends have revision 1 alone. Peers such as Linux's ask by
- * revision 2. */
+ * revision 2.
+ *
+ * With IWARP_PEER_TO_PEER too, the Request asks for the peer-to-peer model: the first frame that this end emits once the
+ * stream is open is the RTR, by which the responder may send before the initiator posts anything. The RTR is no posting:
+ * no event tells of it. A responder with IWARP_ENHANCED takes such a Request as well. IWARP_BAD_BITS is returned if
+ * another role has IWARP_PEER_TO_PEER, or if it comes without IWARP_ENHANCED. */
 int32_t iwarp_open(struct iwarp *handle, uint32_t stream, uint32_t pd, uint32_t role, uint32_t options,
                    const uint8_t *private_data, size_t n);
 
@@ -448,7 +456,7 @@ int32_t iwarp_emit_onto(struct iwarp *handle, uint32_t stream, struct iwarp_buff
 struct iwarp_progress {
     uint64_t sent; /* emitted, the start-up frame among them */
     uint64_t in_order; /* of the peer's, before the in-order point */
-    uint64_t due; /* what the next call of iwarp_emit gives; 0 if that reports IWARP_NOTHING or IWARP_DENIED */
+    uint64_t due; /* of the next frame, which the next call of iwarp_emit gives; 0 if that reports IWARP_NOTHING or IWARP_DENIED */
     uint64_t reserved[4];
 };
 

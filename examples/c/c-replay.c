@@ -119,10 +119,15 @@ static void print_octets(const uint8_t *from, size_t n) {
     }
 }
 
+/* The letters that a sum has; a dash if it has none of them. */
 static void print_letters(uint32_t sum, const char *all) {
-    if (sum == 0) printf("-");
-    for (uint32_t i = 0; all[i]; i++)
-        if (sum >> i & 1) putchar(all[i]);
+    int some = 0;
+    for (uint32_t i = 0; all[i]; i++) {
+        if (!(sum >> i & 1)) continue;
+        putchar(all[i]);
+        some = 1;
+    }
+    if (!some) putchar('-');
 }
 
 /* How traces name a refusal: each word numbers its own refusals. */
@@ -424,7 +429,7 @@ static void do_open(struct end *end, uint32_t stream) {
     struct octets *private_data = octets(words[6]);
     size_t n = role == IWARP_INITIATOR ? private_data->n : 0;
     uint32_t pd = (uint32_t)number(words[3]);
-    uint32_t options = letters(words[5], "mce");
+    uint32_t options = letters(words[5], "mcep");
     int32_t code = strcmp(words[1], "open") == 0
                        ? iwarp_open(&end->handle, stream, pd, role, options, private_data->at, n)
                        : iwarp_open_shared(&end->handle, stream, pd, role, options, private_data->at, n);

@@ -2,8 +2,8 @@
  *
  *     initiator PORT TEXT [OPTIONS]
  *
- * OPTIONS is a sum of IWARP_MARKERS, IWARP_CRC and IWARP_ENHANCED. `iwarp listen` is its peer, but for IWARP_ENHANCED, and so
- * is `target`. The status is 1 if nothing was sent back. */
+ * OPTIONS is a sum of IWARP_MARKERS, IWARP_CRC, IWARP_ENHANCED and IWARP_PEER_TO_PEER. `iwarp listen` is its peer, but for the
+ * latter two, and so is `target`. The status is 1 if nothing was sent back, or if no RTR was agreed on and one was asked for. */
 #include "host.h"
 
 enum { DOMAIN = 1, STREAM = 0, BUFFER = 4096, READ = 65536, FRAME = 66000 };
@@ -11,6 +11,7 @@ enum { DOMAIN = 1, STREAM = 0, BUFFER = 4096, READ = 65536, FRAME = 66000 };
 static struct iwarp end = IWARP_CLOSED;
 static uint8_t octets[READ], frame[FRAME], message[BUFFER];
 static int connection, received;
+static uint32_t options;
 
 /* With IWARP_ENHANCED the output ends after the answer: to real peers its end is that of the connection. Without, before it:
  * `iwarp listen` answers at the end of its input. */
@@ -57,6 +58,7 @@ static void work(const char *text) {
         case IWARP_IDLE:
             return;
         case IWARP_OPENED:
+            if ((options & IWARP_PEER_TO_PEER) && !(event.flags & (IWARP_RTR_WRITE | IWARP_RTR_READ))) exit(1);
             post(text);
             write_out();
             if (!answer_first) shutdown(connection, SHUT_WR);
@@ -85,7 +87,8 @@ static void work(const char *text) {
 int main(int n, char **words) {
     if (n < 3 || strlen(words[2]) > BUFFER) return 2;
     struct sockaddr_in address = local_port((unsigned short)strtol(words[1], 0, 10));
-    uint32_t options = n > 3 ? (uint32_t)strtol(words[3], 0, 10) : 0, kept;
+    uint32_t kept;
+    options = n > 3 ? (uint32_t)strtol(words[3], 0, 10) : 0;
     answer_first = (options & IWARP_ENHANCED) != 0;
     connection = socket(AF_INET, SOCK_STREAM, 0);
     if (connection < 0 || connect(connection, (struct sockaddr *)&address, sizeof address) != 0) return 1;

@@ -200,13 +200,18 @@ static int is_zero(const uint8_t *octets, size_t n) {
     return 1;
 }
 
+/* Begins, and writes TRANSFER octets at the front of the disk, which `out` has then. */
+static struct host_queue *begin_written(struct host *host, uint8_t *out) {
+    CHECK(host_begin(host, 1, HOST_DEPTH));
+    fill(out, TRANSFER, 5);
+    CHECK(write_blocks(host->queues[1], 0, out, TRANSFER, SGL_KEYED) == 0);
+    return host->queues[1];
+}
+
 static void clears(void) {
     static uint8_t out[TRANSFER], in[TRANSFER];
     struct host host = new_host();
-    CHECK(host_begin(&host, 1, HOST_DEPTH));
-    struct host_queue *queue = host.queues[1];
-    fill(out, TRANSFER, 5);
-    CHECK(write_blocks(queue, 0, out, TRANSFER, SGL_KEYED) == 0);
+    struct host_queue *queue = begin_written(&host, out);
     host_blocks(host_command(queue, 0, IO_WRITE_ZEROES, NSID), 1, TRANSFER / HOST_LBA - 2);
     CHECK(host_do(queue, 0) == 0);
     CHECK(read_blocks(queue, 0, in, TRANSFER, SGL_KEYED) == 0);
@@ -228,10 +233,7 @@ static void clears(void) {
 static void deallocates(void) {
     static uint8_t out[TRANSFER], in[TRANSFER];
     struct host host = new_host();
-    CHECK(host_begin(&host, 1, HOST_DEPTH));
-    struct host_queue *queue = host.queues[1];
-    fill(out, TRANSFER, 5);
-    CHECK(write_blocks(queue, 0, out, TRANSFER, SGL_KEYED) == 0);
+    struct host_queue *queue = begin_written(&host, out);
     uint8_t ranges[2 * RANGE_OCTETS] = {0};
     set_field(ranges + RANGE_NLB, 4, 8);
     set_field(ranges + RANGE_OCTETS + RANGE_NLB, 4, 1);

@@ -12,10 +12,10 @@ ghost use Rattle.iw_handle.specs.Refusals.{buffer_reason, code_of, refusal_code}
 ghost use Rattle.iw_handle.specs.Regions.{region_refusal, refusal_to_register};
 ghost use Rattle.iw_handle.specs.State.{refusal_with, changed, told_in, shown_in};
 ghost use Rattle.iw_handle.specs.Streams.{refusal_to_go_on};
-ghost use Rattle.iw_handle.specs.Words.{stream_number, domain_number, rights_of};
+ghost use Rattle.iw_handle.specs.Words.{domain_number, rights_of};
 
 use iw_buffer::{Buffer, BufferRefusal};
-use iw_handle::{Emitted, Handle, buffer_reason, code, domain_number, stag_of, stream_number};
+use iw_handle::{Emitted, Handle, buffer_reason, code, domain_number, stag_of};
 use std::alloc::Global;
 
 // The code of a call on a buffer.
@@ -133,22 +133,22 @@ pub extern "C" fn iwarp_emit_onto(
     emitted: &mut Emitted,
 ) -> i32
     ensures refused { IfSome (refusal_with handle.old.state buffer.old.state
-        (λ e octets. refusal_to_go_on e (stream_number number))) (λ r. result ≡ pos (refusal_code r)) }
+        (λ e octets. refusal_to_go_on e number)) (λ r. result ≡ pos (refusal_code r)) }
     ensures memory { IfNone (refusal_with handle.old.state buffer.old.state
-        (λ e octets. refusal_to_go_on e (stream_number number))) ((result ≡ pos 0) ⊎ (result ≡ pos 3)) }
+        (λ e octets. refusal_to_go_on e number)) ((result ≡ pos 0) ⊎ (result ≡ pos 3)) }
     ensures want { result ≡ pos 3 → IfSome handle.old.state
-        (λ held. IsFrame (emission_at held.endpoint (stream_number number))) }
+        (λ held. IsFrame (emission_at held.endpoint number)) }
     ensures emitted { result ≡ pos 0 → Some emitted.new ≡ told_in handle.old.state
-        (λ e. emitted_of (emission_at e (stream_number number))) }
+        (λ e. emitted_of (emission_at e number)) }
     ensures untold { result ≢ pos 0 → emitted.new ≡ emitted.old }
     ensures octets { result ≡ pos 0 → IfSome buffer.old.state (λ octets.
-        buffer.new.state ≡ told_in handle.old.state (λ e. octets ++ emitted_at e (stream_number number))) }
+        buffer.new.state ≡ told_in handle.old.state (λ e. octets ++ emitted_at e number)) }
     ensures ok { result ≡ pos 0 → handle.new.state ≡ changed handle.old.state
-        (λ e. after_emit e (stream_number number)) }
+        (λ e. after_emit e number) }
     ensures err { result ≢ pos 0 → handle.new.state ≡ handle.old.state }
     ensures back { result ≢ pos 0 → buffer.new.state ≡ buffer.old.state }
 {
-    let done = handle.emit_onto(alloc, stream_number(number), buffer);
+    let done = handle.emit_onto(alloc, number, buffer);
     if let Ok(told) = done {
         *emitted = told;
     }

@@ -11,9 +11,8 @@ ghost use Rattle.iw_handle.specs.Steps.{TellsOn};
 ghost use Rattle.iw_handle.specs.declared.working.TheConstants.{QUIET_STEPS};
 ghost use Rattle.iw_handle.specs.Streams.{first_refusal, BringsAt, TriesAt, worked, event_in, handed_in, fetched};
 ghost use Rattle.iw_handle.specs.declared.refusal.Refusal.TheVariants.{Closed};
-ghost use Rattle.iw_handle.specs.Words.{stream_number};
 
-use iw_handle::{Emitted, Event, Handle, Progress, code, kept_number, stream_number};
+use iw_handle::{Emitted, Event, Handle, Progress, code, kept_number};
 use std::alloc::Global;
 
 /// Sets the sequence number of the peer's first octet.
@@ -24,16 +23,12 @@ pub extern "C" fn iwarp_first_number(
     number: u32,
     first: u32,
 ) -> i32
-    ensures code { result ≡ pos (code_of (refusal_in handle.old.state (λ e. first_refusal e (stream_number number)))) }
+    ensures code { result ≡ pos (code_of (refusal_in handle.old.state (λ e. first_refusal e number))) }
     ensures ok { result ≡ pos 0 → handle.new.state ≡ changed handle.old.state
-        (λ e. with_first e (stream_number number) first) }
+        (λ e. with_first e number first) }
     ensures err { result ≢ pos 0 → handle.new.state ≡ handle.old.state }
 {
-    code(
-        handle
-            .first_number(alloc, stream_number(number), first)
-            .err(),
-    )
+    code(handle.first_number(alloc, number, first).err())
 }
 
 /// Takes octets that came on a stream's connection; the first has this sequence number. `kept` becomes 1 if they are
@@ -47,20 +42,20 @@ pub extern "C" fn iwarp_deliver(
     octets: &[u8],
     kept: &mut u32,
 ) -> i32
-    ensures refused { IfSome (refusal_in handle.old.state (λ e. stream_refusal e (stream_number number)))
+    ensures refused { IfSome (refusal_in handle.old.state (λ e. stream_refusal e number))
         (λ r. result ≡ pos (refusal_code r)) }
-    ensures memory { IfNone (refusal_in handle.old.state (λ e. stream_refusal e (stream_number number)))
+    ensures memory { IfNone (refusal_in handle.old.state (λ e. stream_refusal e number))
         ((result ≡ pos 0) ⊎ (result ≡ pos 3)) }
     ensures want { IfSome handle.old.state
-        (λ held. result ≡ pos 3 → BringsAt held.endpoint (stream_number number) sequence (length octets.now)) }
+        (λ held. result ≡ pos 3 → BringsAt held.endpoint number sequence (length octets.now)) }
     ensures delivery { result ≡ pos 0 → Some kept.new ≡ told_in handle.old.state
-        (λ e. kept_number (delivery_at e (stream_number number) sequence (length octets.now))) }
+        (λ e. kept_number (delivery_at e number sequence (length octets.now))) }
     ensures kept { result ≢ pos 0 → kept.new ≡ kept.old }
     ensures ok { result ≡ pos 0 → handle.new.state ≡ changed handle.old.state
-        (λ e. after_deliver e (stream_number number) sequence octets.now) }
+        (λ e. after_deliver e number sequence octets.now) }
     ensures err { result ≢ pos 0 → handle.new.state ≡ handle.old.state }
 {
-    let done = handle.deliver(alloc, stream_number(number), sequence, octets);
+    let done = handle.deliver(alloc, number, sequence, octets);
     if let Ok(delivery) = done {
         *kept = kept_number(delivery);
     }
@@ -75,18 +70,18 @@ pub extern "C" fn iwarp_work(
     number: u32,
     event: &mut Event,
 ) -> i32
-    ensures refused { IfSome (refusal_in handle.old.state (λ e. refusal_to_work e (stream_number number)))
+    ensures refused { IfSome (refusal_in handle.old.state (λ e. refusal_to_work e number))
         (λ r. result ≡ pos (refusal_code r)) }
-    ensures memory { IfNone (refusal_in handle.old.state (λ e. refusal_to_work e (stream_number number)))
+    ensures memory { IfNone (refusal_in handle.old.state (λ e. refusal_to_work e number))
         ((result ≡ pos 0) ⊎ (result ≡ pos 3)) }
-    ensures want { result ≡ pos 3 → IfSome handle.old.state (λ held. TriesAt held.endpoint (stream_number number)) }
+    ensures want { result ≡ pos 3 → IfSome handle.old.state (λ held. TriesAt held.endpoint number) }
     ensures event { result ≡ pos 0 → Some event.new ≡ option_map
-        (λ held. event_in held (stream_number number)) handle.old.state }
+        (λ held. event_in held number) handle.old.state }
     ensures kept { result ≢ pos 0 → event.new ≡ event.old }
-    ensures ok { result ≡ pos 0 → handle.new.state ≡ worked handle.old.state (stream_number number) }
+    ensures ok { result ≡ pos 0 → handle.new.state ≡ worked handle.old.state number }
     ensures err { result ≢ pos 0 → handle.new.state ≡ handle.old.state }
 {
-    code(handle.work(alloc, stream_number(number), event).err())
+    code(handle.work(alloc, number, event).err())
 }
 
 /// Does steps at a stream until one that the program has to act on, and writes that one to `event`, in numbers.
@@ -99,10 +94,10 @@ pub extern "C" fn iwarp_work_on(
 ) -> i32
     ensures closed { handle.old.state ≡ None → (result ≡ pos 1) × (handle.new.state ≡ None) }
     ensures steps { IfSome handle.old.state (λ held.
-        IsSomeAnd handle.new.state (λ after. TellsOn QUIET_STEPS held (stream_number number) result event.new after)) }
+        IsSomeAnd handle.new.state (λ after. TellsOn QUIET_STEPS held number result event.new after)) }
     ensures kept { result ≢ pos 0 → event.new ≡ event.old }
 {
-    code(handle.work_on(alloc, stream_number(number), event).err())
+    code(handle.work_on(alloc, number, event).err())
 }
 
 /// Copies what a stream handed back last to the front of a buffer, and forgets it.
@@ -115,14 +110,14 @@ pub extern "C" fn iwarp_fetch(
     len: &mut usize,
 ) -> i32
     ensures code { result ≡ pos (code_of
-        (copy_refusal (handed_in handle.old.state (stream_number number)) Closed (length out.old))) }
-    ensures len { len.new ≡ length_told (handed_in handle.old.state (stream_number number)) len.old }
-    ensures octets { result ≡ pos 0 → out.new ≡ filled (handed_in handle.old.state (stream_number number)) out.old }
+        (copy_refusal (handed_in handle.old.state number) Closed (length out.old))) }
+    ensures len { len.new ≡ length_told (handed_in handle.old.state number) len.old }
+    ensures octets { result ≡ pos 0 → out.new ≡ filled (handed_in handle.old.state number) out.old }
     ensures kept { result ≢ pos 0 → out.new ≡ out.old }
-    ensures ok { result ≡ pos 0 → handle.new.state ≡ fetched handle.old.state (stream_number number) }
+    ensures ok { result ≡ pos 0 → handle.new.state ≡ fetched handle.old.state number }
     ensures err { result ≢ pos 0 → handle.new.state ≡ handle.old.state }
 {
-    code(handle.fetch(alloc, stream_number(number), out, len).err())
+    code(handle.fetch(alloc, number, out, len).err())
 }
 
 /// Emits what is due at a stream to the front of a buffer, and writes what it was to `emission`, in numbers.
@@ -136,25 +131,25 @@ pub extern "C" fn iwarp_emit(
     emitted: &mut Emitted,
 ) -> i32
     ensures refused { IfSome (refusal_in handle.old.state
-        (λ e. refusal_to_emit e (stream_number number) (length out.old)))
+        (λ e. refusal_to_emit e number (length out.old)))
         (λ r. result ≡ pos (refusal_code r)) }
     ensures memory { IfNone (refusal_in handle.old.state
-        (λ e. refusal_to_emit e (stream_number number) (length out.old)))
+        (λ e. refusal_to_emit e number (length out.old)))
         ((result ≡ pos 0) ⊎ (result ≡ pos 3)) }
     ensures want { result ≡ pos 3 → IfSome handle.old.state
-        (λ held. IsFrame (emission_at held.endpoint (stream_number number))) }
-    ensures len { len.new ≡ length_told (shown_in handle.old.state (λ e. due_shown e (stream_number number))) len.old }
+        (λ held. IsFrame (emission_at held.endpoint number)) }
+    ensures len { len.new ≡ length_told (shown_in handle.old.state (λ e. due_shown e number)) len.old }
     ensures emitted { result ≡ pos 0 → Some emitted.new ≡ told_in handle.old.state
-        (λ e. emitted_of (emission_at e (stream_number number))) }
+        (λ e. emitted_of (emission_at e number)) }
     ensures untold { result ≢ pos 0 → emitted.new ≡ emitted.old }
     ensures octets { result ≡ pos 0 → out.new ≡ filled (shown_in handle.old.state
-        (λ e. due_shown e (stream_number number))) out.old }
+        (λ e. due_shown e number)) out.old }
     ensures kept { result ≢ pos 0 → out.new ≡ out.old }
     ensures ok { result ≡ pos 0 → handle.new.state ≡ changed handle.old.state
-        (λ e. after_emit e (stream_number number)) }
+        (λ e. after_emit e number) }
     ensures err { result ≢ pos 0 → handle.new.state ≡ handle.old.state }
 {
-    let done = handle.emit(alloc, stream_number(number), out, len);
+    let done = handle.emit(alloc, number, out, len);
     if let Ok(told) = done {
         *emitted = told;
     }
@@ -169,13 +164,13 @@ pub extern "C" fn iwarp_progress(
     number: u32,
     progress: &mut Progress,
 ) -> i32
-    ensures code { result ≡ pos (code_of (refusal_in handle.old.state (λ e. refusal_to_go_on e (stream_number number)))) }
+    ensures code { result ≡ pos (code_of (refusal_in handle.old.state (λ e. refusal_to_go_on e number))) }
     ensures progress { result ≡ pos 0 → Some progress.new ≡ told_in handle.old.state
-        (λ e. progress_at e (stream_number number)) }
+        (λ e. progress_at e number) }
     ensures untold { result ≢ pos 0 → progress.new ≡ progress.old }
     ensures same { handle.new.state ≡ handle.old.state }
 {
-    let done = handle.progress(alloc, stream_number(number));
+    let done = handle.progress(alloc, number);
     if let Ok(told) = done {
         *progress = told;
     }

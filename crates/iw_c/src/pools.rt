@@ -5,9 +5,9 @@ ghost use Rattle.iw_handle.specs.Pools.{refusal_to_share, refusal_to_pool, refus
 ghost use Rattle.iw_handle.specs.Refusals.{refusal_code};
 ghost use Rattle.iw_handle.specs.State.{refusal_in, changed, length_refusal};
 ghost use Rattle.iw_handle.specs.Streams.{zeroes};
-ghost use Rattle.iw_handle.specs.Words.{stream_number, domain_number, role_in, config_of};
+ghost use Rattle.iw_handle.specs.Words.{domain_number, role_in, config_of};
 
-use iw_handle::{Handle, code, domain_number, stream_number};
+use iw_handle::{Handle, code, domain_number};
 use std::alloc::Global;
 
 /// Gives the domain an empty pool of receive buffers.
@@ -52,26 +52,19 @@ pub extern "C" fn iwarp_open_shared(
 ) -> i32
     ensures refused { IfSome
         (refusal_in handle.old.state
-        (λ e. refusal_to_open_shared e (stream_number number) (domain_number pd) role options private.now))
+        (λ e. refusal_to_open_shared e number (domain_number pd) role options private.now))
         (λ r. result ≡ pos (refusal_code r)) }
     ensures memory { IfNone
         (refusal_in handle.old.state
-        (λ e. refusal_to_open_shared e (stream_number number) (domain_number pd) role options private.now))
+        (λ e. refusal_to_open_shared e number (domain_number pd) role options private.now))
         ((result ≡ pos 0) ⊎ (result ≡ pos 3)) }
     ensures ok { result ≡ pos 0 → handle.new.state ≡ changed handle.old.state (λ e.
-        opened_shared e (stream_number number) (domain_number pd) (role_in role) (config_of options private.now)) }
+        opened_shared e number (domain_number pd) (role_in role) (config_of options private.now)) }
     ensures err { result ≢ pos 0 → handle.new.state ≡ handle.old.state }
 {
     code(
         handle
-            .open_shared(
-                alloc,
-                stream_number(number),
-                domain_number(pd),
-                role,
-                options,
-                private,
-            )
+            .open_shared(alloc, number, domain_number(pd), role, options, private)
             .err(),
     )
 }

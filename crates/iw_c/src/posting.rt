@@ -6,9 +6,9 @@ ghost use Rattle.iw_handle.specs.Refusals.{refusal_code};
 ghost use Rattle.iw_handle.specs.State.{refusal_in, changed, length_refusal};
 ghost use Rattle.iw_handle.specs.Streams.{refusal_to_post, refusal_to_send, refusal_to_lend};
 ghost use Rattle.iw_handle.specs.Streams.{sent, write_of, read_of, posted, zeroes};
-ghost use Rattle.iw_handle.specs.Words.{stream_number, bits_refusal, read_request};
+ghost use Rattle.iw_handle.specs.Words.{bits_refusal, read_request};
 
-use iw_handle::{Handle, code, read_request, stag_of, stream_number};
+use iw_handle::{Handle, code, read_request, stag_of};
 use std::alloc::Global;
 
 /// Posts a Send of a copy of the octets. The token is told when the Send is done or flushed.
@@ -24,20 +24,20 @@ pub extern "C" fn iwarp_post_send(
 ) -> i32
     // The code of the first refusal that applies, or of `NoMemory`.
     ensures refused { IfSome (refusal_in handle.old.state
-        (λ e. refusal_to_send e (stream_number number) octets.now flags stag))
+        (λ e. refusal_to_send e number octets.now flags stag))
         (λ r. (result ≡ pos 3) ⊎ (result ≡ pos (refusal_code r))) }
     ensures memory { IfNone (refusal_in handle.old.state
-        (λ e. refusal_to_send e (stream_number number) octets.now flags stag))
+        (λ e. refusal_to_send e number octets.now flags stag))
         ((result ≡ pos 0) ⊎ (result ≡ pos 3)) }
     ensures bits { IfSome (refusal_in handle.old.state (λ e. bits_refusal 4 flags))
         (λ r. result ≡ pos (refusal_code r)) }
     ensures ok { result ≡ pos 0 →
-        handle.new.state ≡ posted handle.old.state (stream_number number) (sent octets.now flags stag) token }
+        handle.new.state ≡ posted handle.old.state number (sent octets.now flags stag) token }
     ensures err { result ≢ pos 0 → handle.new.state ≡ handle.old.state }
 {
     code(
         handle
-            .post_send(alloc, stream_number(number), octets, flags, stag, token)
+            .post_send(alloc, number, octets, flags, stag, token)
             .err(),
     )
 }
@@ -56,26 +56,19 @@ pub extern "C" fn iwarp_post_write(
     // The code of the first refusal that applies, or of `NoMemory`.
     ensures refused { IfSome
         (refusal_in handle.old.state
-        (λ e. refusal_to_post e (stream_number number) (write_of (stag_of stag) to octets.now)))
+        (λ e. refusal_to_post e number (write_of (stag_of stag) to octets.now)))
         (λ r. (result ≡ pos 3) ⊎ (result ≡ pos (refusal_code r))) }
     ensures memory { IfNone
         (refusal_in handle.old.state
-        (λ e. refusal_to_post e (stream_number number) (write_of (stag_of stag) to octets.now)))
+        (λ e. refusal_to_post e number (write_of (stag_of stag) to octets.now)))
         ((result ≡ pos 0) ⊎ (result ≡ pos 3)) }
     ensures ok { result ≡ pos 0 →
-        handle.new.state ≡ posted handle.old.state (stream_number number) (write_of (stag_of stag) to octets.now) token }
+        handle.new.state ≡ posted handle.old.state number (write_of (stag_of stag) to octets.now) token }
     ensures err { result ≢ pos 0 → handle.new.state ≡ handle.old.state }
 {
     code(
         handle
-            .post_write(
-                alloc,
-                stream_number(number),
-                stag_of(stag),
-                to,
-                octets,
-                token,
-            )
+            .post_write(alloc, number, stag_of(stag), to, octets, token)
             .err(),
     )
 }
@@ -94,35 +87,31 @@ pub extern "C" fn iwarp_post_read(
     token: u64,
 ) -> i32
     ensures refused { IfSome (refusal_in handle.old.state
-        (λ e. refusal_to_post e (stream_number number) (read_of (read_request sink sink_to size source source_to))))
+        (λ e. refusal_to_post e number (read_of (read_request sink sink_to size source source_to))))
         (λ r. result ≡ pos (refusal_code r)) }
     ensures memory { IfNone (refusal_in handle.old.state
-        (λ e. refusal_to_post e (stream_number number) (read_of (read_request sink sink_to size source source_to))))
+        (λ e. refusal_to_post e number (read_of (read_request sink sink_to size source source_to))))
         ((result ≡ pos 0) ⊎ (result ≡ pos 3)) }
-    ensures ok { result ≡ pos 0 → handle.new.state ≡ posted handle.old.state (stream_number number)
+    ensures ok { result ≡ pos 0 → handle.new.state ≡ posted handle.old.state number
         (read_of (read_request sink sink_to size source source_to)) token }
     ensures err { result ≢ pos 0 → handle.new.state ≡ handle.old.state }
 {
     let request = read_request(sink, sink_to, size, source, source_to);
-    code(
-        handle
-            .post_read(alloc, stream_number(number), request, token)
-            .err(),
-    )
+    code(handle.post_read(alloc, number, request, token).err())
 }
 
 /// Posts a receive buffer of `n` zero octets.
 #[unsafe(no_mangle)]
 pub extern "C" fn iwarp_post_recv(alloc: Global, handle: &mut Handle, number: u32, n: usize) -> i32
     // The code of the first refusal that applies, or of `NoMemory`.
-    ensures refused { IfSome (refusal_in handle.old.state (λ e. refusal_to_lend e (stream_number number) n))
+    ensures refused { IfSome (refusal_in handle.old.state (λ e. refusal_to_lend e number n))
         (λ r. (result ≡ pos 3) ⊎ (result ≡ pos (refusal_code r))) }
-    ensures memory { IfNone (refusal_in handle.old.state (λ e. refusal_to_lend e (stream_number number) n))
+    ensures memory { IfNone (refusal_in handle.old.state (λ e. refusal_to_lend e number n))
         ((result ≡ pos 0) ⊎ (result ≡ pos 3)) }
     ensures long { IfSome (refusal_in handle.old.state (λ e. length_refusal n)) (λ r. result ≡ pos (refusal_code r)) }
     ensures ok { result ≡ pos 0 → handle.new.state ≡ changed handle.old.state
-        (λ e. with_buffer e (stream_number number) (zeroes n)) }
+        (λ e. with_buffer e number (zeroes n)) }
     ensures err { result ≢ pos 0 → handle.new.state ≡ handle.old.state }
 {
-    code(handle.post_recv(alloc, stream_number(number), n).err())
+    code(handle.post_recv(alloc, number, n).err())
 }

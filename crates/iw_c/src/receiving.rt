@@ -7,11 +7,11 @@ ghost use Rattle.iw_handle.specs.Pools.{refusal_to_pool, refusal_to_take};
 ghost use Rattle.iw_handle.specs.Refusals.{code_of, refusal_code};
 ghost use Rattle.iw_handle.specs.State.{refusal_with, changed, told_in};
 ghost use Rattle.iw_handle.specs.Streams.{refusal_to_lend, fetched};
-ghost use Rattle.iw_handle.specs.Words.{stream_number, domain_number};
+ghost use Rattle.iw_handle.specs.Words.{domain_number};
 ghost use Rattle.iw_lines.specs.Lines.{line_at};
 
 use iw_buffer::Buffer;
-use iw_handle::{Handle, code, domain_number, stream_number};
+use iw_handle::{Handle, code, domain_number};
 use std::alloc::Global;
 
 /// Moves into a buffer what a stream handed back last, which is then no longer kept, and tells how many of its first octets
@@ -26,19 +26,15 @@ pub extern "C" fn iwarp_fetch_buffer(
 ) -> i32
     ensures code { result ≡ pos (code_of (refusal_with handle.old.state buffer.old.state (λ e octets. None))) }
     ensures octets { result ≡ pos 0 → buffer.new.state ≡ option_map
-        (λ held. (line_at held.lines (stream_number number)).handed.buffer) handle.old.state }
+        (λ held. (line_at held.lines number).handed.buffer) handle.old.state }
     ensures len { result ≡ pos 0 → Some n.new ≡ option_map
-        (λ held. (line_at held.lines (stream_number number)).handed.len) handle.old.state }
+        (λ held. (line_at held.lines number).handed.len) handle.old.state }
     ensures untold { result ≢ pos 0 → n.new ≡ n.old }
-    ensures ok { result ≡ pos 0 → handle.new.state ≡ fetched handle.old.state (stream_number number) }
+    ensures ok { result ≡ pos 0 → handle.new.state ≡ fetched handle.old.state number }
     ensures err { result ≢ pos 0 → handle.new.state ≡ handle.old.state }
     ensures back { result ≢ pos 0 → buffer.new.state ≡ buffer.old.state }
 {
-    code(
-        handle
-            .fetch_buffer(alloc, stream_number(number), buffer, n)
-            .err(),
-    )
+    code(handle.fetch_buffer(alloc, number, buffer, n).err())
 }
 
 /// Posts a buffer's octets themselves as a receive buffer.
@@ -50,20 +46,16 @@ pub extern "C" fn iwarp_post_recv_buffer(
     buffer: &mut Buffer,
 ) -> i32
     ensures refused { IfSome (refusal_with handle.old.state buffer.old.state
-        (λ e octets. refusal_to_lend e (stream_number number) (length octets))) (λ r. result ≡ pos (refusal_code r)) }
+        (λ e octets. refusal_to_lend e number (length octets))) (λ r. result ≡ pos (refusal_code r)) }
     ensures memory { IfNone (refusal_with handle.old.state buffer.old.state
-        (λ e octets. refusal_to_lend e (stream_number number) (length octets))) ((result ≡ pos 0) ⊎ (result ≡ pos 3)) }
+        (λ e octets. refusal_to_lend e number (length octets))) ((result ≡ pos 0) ⊎ (result ≡ pos 3)) }
     ensures ok { result ≡ pos 0 → IfSome buffer.old.state (λ octets. handle.new.state ≡ changed handle.old.state
-        (λ e. with_buffer e (stream_number number) octets)) }
+        (λ e. with_buffer e number octets)) }
     ensures taken { result ≡ pos 0 → buffer.new.state ≡ Some [] }
     ensures err { result ≢ pos 0 → handle.new.state ≡ handle.old.state }
     ensures back { result ≢ pos 0 → buffer.new.state ≡ buffer.old.state }
 {
-    code(
-        handle
-            .post_recv_buffer(alloc, stream_number(number), buffer)
-            .err(),
-    )
+    code(handle.post_recv_buffer(alloc, number, buffer).err())
 }
 
 /// Posts a buffer's octets themselves to the domain's pool.

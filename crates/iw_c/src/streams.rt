@@ -6,10 +6,10 @@ ghost use Rattle.iw_handle.specs.Refusals.{code_of, refusal_code};
 ghost use Rattle.iw_handle.specs.State.{refusal_in, changed, told_in, shown_in, stream_refusal};
 ghost use Rattle.iw_handle.specs.State.{copy_refusal, filled, length_told};
 ghost use Rattle.iw_handle.specs.Streams.{refusal_to_open, refusal_to_answer, size_refusal, private_shown};
-ghost use Rattle.iw_handle.specs.Words.{stream_number, domain_number, role_in, config_of, private_of};
+ghost use Rattle.iw_handle.specs.Words.{domain_number, role_in, config_of, private_of};
 ghost use Rattle.iw_handle.specs.declared.refusal.Refusal.TheVariants.{NoSuchStream};
 
-use iw_handle::{Handle, Told, agreed_flags, code, domain_number, peer_told, stream_number};
+use iw_handle::{Handle, Told, agreed_flags, code, domain_number, peer_told};
 use std::alloc::Global;
 
 /// Opens a stream in a domain under a number.
@@ -24,25 +24,18 @@ pub extern "C" fn iwarp_open(
     private: &[u8],
 ) -> i32
     ensures refused { IfSome (refusal_in handle.old.state
-        (λ e. refusal_to_open e (stream_number number) (domain_number pd) role options private.now))
+        (λ e. refusal_to_open e number (domain_number pd) role options private.now))
         (λ r. result ≡ pos (refusal_code r)) }
     ensures memory { IfNone (refusal_in handle.old.state
-        (λ e. refusal_to_open e (stream_number number) (domain_number pd) role options private.now))
+        (λ e. refusal_to_open e number (domain_number pd) role options private.now))
         ((result ≡ pos 0) ⊎ (result ≡ pos 3)) }
     ensures ok { result ≡ pos 0 → handle.new.state ≡ changed handle.old.state
-        (λ e. opened e (stream_number number) (domain_number pd) (role_in role) (config_of options private.now)) }
+        (λ e. opened e number (domain_number pd) (role_in role) (config_of options private.now)) }
     ensures err { result ≢ pos 0 → handle.new.state ≡ handle.old.state }
 {
     code(
         handle
-            .open_stream(
-                alloc,
-                stream_number(number),
-                domain_number(pd),
-                role,
-                options,
-                private,
-            )
+            .open_stream(alloc, number, domain_number(pd), role, options, private)
             .err(),
     )
 }
@@ -57,15 +50,15 @@ pub extern "C" fn iwarp_accept(
     agreed: &mut u32,
 ) -> i32
     ensures code { result ≡ pos
-        (code_of (refusal_in handle.old.state (λ e. refusal_to_answer e (stream_number number) private.now))) }
+        (code_of (refusal_in handle.old.state (λ e. refusal_to_answer e number private.now))) }
     ensures agreed { result ≡ pos 0 → Some agreed.new ≡ told_in handle.old.state
-        (λ e. agreed_flags (agreement e (stream_number number))) }
+        (λ e. agreed_flags (agreement e number)) }
     ensures kept { result ≢ pos 0 → agreed.new ≡ agreed.old }
     ensures ok { result ≡ pos 0 → handle.new.state ≡ changed handle.old.state
-        (λ e. accepted e (stream_number number) (private_of private.now)) }
+        (λ e. accepted e number (private_of private.now)) }
     ensures err { result ≢ pos 0 → handle.new.state ≡ handle.old.state }
 {
-    let done = handle.accept(alloc, stream_number(number), private);
+    let done = handle.accept(alloc, number, private);
     if let Ok(told) = done {
         *agreed = agreed_flags(told);
     }
@@ -81,12 +74,12 @@ pub extern "C" fn iwarp_reject(
     private: &[u8],
 ) -> i32
     ensures code { result ≡ pos
-        (code_of (refusal_in handle.old.state (λ e. refusal_to_answer e (stream_number number) private.now))) }
+        (code_of (refusal_in handle.old.state (λ e. refusal_to_answer e number private.now))) }
     ensures ok { result ≡ pos 0 → handle.new.state ≡ changed handle.old.state
-        (λ e. rejected e (stream_number number) (private_of private.now)) }
+        (λ e. rejected e number (private_of private.now)) }
     ensures err { result ≢ pos 0 → handle.new.state ≡ handle.old.state }
 {
-    code(handle.reject(alloc, stream_number(number), private).err())
+    code(handle.reject(alloc, number, private).err())
 }
 
 /// Copies the private data of the peer's start-up frame to the front of a buffer.
@@ -100,15 +93,15 @@ pub extern "C" fn iwarp_private(
 ) -> i32
     ensures code { result ≡ pos (code_of
         (refusal_in handle.old.state
-        (λ e. copy_refusal (private_shown e (stream_number number)) NoSuchStream (length out.old)))) }
+        (λ e. copy_refusal (private_shown e number) NoSuchStream (length out.old)))) }
     ensures len { len.new ≡ length_told (shown_in handle.old.state
-        (λ e. private_shown e (stream_number number))) len.old }
+        (λ e. private_shown e number)) len.old }
     ensures ok { result ≡ pos 0 → out.new ≡ filled (shown_in handle.old.state
-        (λ e. private_shown e (stream_number number))) out.old }
+        (λ e. private_shown e number)) out.old }
     ensures err { result ≢ pos 0 → out.new ≡ out.old }
     ensures same { handle.new.state ≡ handle.old.state }
 {
-    code(handle.private(alloc, stream_number(number), out, len).err())
+    code(handle.private(alloc, number, out, len).err())
 }
 
 /// What the peer told in an enhanced start-up frame.
@@ -120,13 +113,13 @@ pub extern "C" fn iwarp_told(
     told: &mut Told,
 ) -> i32
     ensures code { result ≡ pos
-        (code_of (refusal_in handle.old.state (λ e. stream_refusal e (stream_number number)))) }
+        (code_of (refusal_in handle.old.state (λ e. stream_refusal e number))) }
     ensures told { result ≡ pos 0 → Some told.new ≡ told_in handle.old.state
-        (λ e. peer_told (told_at e (stream_number number))) }
+        (λ e. peer_told (told_at e number)) }
     ensures kept { result ≢ pos 0 → told.new ≡ told.old }
     ensures same { handle.new.state ≡ handle.old.state }
 {
-    let done = handle.told(alloc, stream_number(number));
+    let done = handle.told(alloc, number);
     if let Ok(word) = done {
         *told = peer_told(word);
     }
@@ -136,11 +129,11 @@ pub extern "C" fn iwarp_told(
 /// Reports that a stream's link broke: the stream has ended, and nothing more is emitted.
 #[unsafe(no_mangle)]
 pub extern "C" fn iwarp_break(alloc: Global, handle: &mut Handle, number: u32) -> i32
-    ensures code { result ≡ pos (code_of (refusal_in handle.old.state (λ e. stream_refusal e (stream_number number)))) }
-    ensures ok { result ≡ pos 0 → handle.new.state ≡ changed handle.old.state (λ e. broken e (stream_number number)) }
+    ensures code { result ≡ pos (code_of (refusal_in handle.old.state (λ e. stream_refusal e number))) }
+    ensures ok { result ≡ pos 0 → handle.new.state ≡ changed handle.old.state (λ e. broken e number) }
     ensures err { result ≢ pos 0 → handle.new.state ≡ handle.old.state }
 {
-    code(handle.break_link(alloc, stream_number(number)).err())
+    code(handle.break_link(alloc, number).err())
 }
 
 /// Sets the maximum ULPDU of the frames that a stream emits from then on.
@@ -152,10 +145,10 @@ pub extern "C" fn iwarp_set_mulpdu(
     size: u32,
 ) -> i32
     ensures code { result ≡ pos (code_of (refusal_in handle.old.state
-        (λ e. size_refusal e (stream_number number) size))) }
+        (λ e. size_refusal e number size))) }
     ensures ok { result ≡ pos 0 → handle.new.state ≡ changed handle.old.state
-        (λ e. with_mulpdu e (stream_number number) size) }
+        (λ e. with_mulpdu e number size) }
     ensures err { result ≢ pos 0 → handle.new.state ≡ handle.old.state }
 {
-    code(handle.set_mulpdu(alloc, stream_number(number), size).err())
+    code(handle.set_mulpdu(alloc, number, size).err())
 }

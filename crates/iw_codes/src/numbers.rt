@@ -96,12 +96,18 @@ pub const CRC: u32 = 2;
 
 pub const ENHANCED: u32 = 4;
 
+pub const PEER_TO_PEER: u32 = 8;
+
 // What both ends agree on.
 pub const SENDS_MARKERS: u32 = 1;
 
 pub const EXPECTS_MARKERS: u32 = 2;
 
 pub const USES_CRC: u32 = 4;
+
+pub const RTR_WRITE: u32 = 8;
+
+pub const RTR_READ: u32 = 16;
 
 // How a Send is posted, and how one was received.
 pub const SOLICITED: u32 = 1;

@@ -14,6 +14,8 @@ use Rattle.iw_ranges.specs.declared.Delivery.{Delivery}
 use Rattle.iw_ranges.specs.declared.Delivery.TheVariants as deliveries
 use Rattle.iw_startup.specs.declared.config.Agreed.{Agreed}
 use Rattle.iw_startup.specs.declared.enhanced.EnhancedData.{EnhancedData}
+use Rattle.iw_startup.specs.declared.enhanced.Rtr.{Rtr}
+use Rattle.iw_startup.specs.declared.enhanced.Rtr.TheVariants as rtrs
 use Rattle.iw_startup.specs.declared.progress.StartupFault.{StartupFault}
 use Rattle.iw_startup.specs.declared.progress.StartupFault.TheVariants.{BadKey, BadRev, BadLength, Rejected}
 use Rattle.iw_stream.specs.declared.answer.Emission as emission
@@ -50,10 +52,17 @@ startup_number Rejected = numbers.REJECTED
 abbrev pub flag : Bool → ℕ → ℕ
 flag on value = if on then value else 0
 
--- this end sends markers, the peer sends markers, CRCs are used
+-- the RTR that this end sends first, if it sends one
+abbrev pub rtr_flag : Option Rtr → ℕ
+rtr_flag None = 0
+rtr_flag (Some rtrs.Write) = numbers.RTR_WRITE
+rtr_flag (Some rtrs.Read) = numbers.RTR_READ
+
+-- this end sends markers, the peer sends markers, CRCs are used, and the RTR
 abbrev pub agreed_flags : Agreed → ℕ
 agreed_flags agreed =
-    flag agreed.send_markers numbers.SENDS_MARKERS + flag agreed.expect_markers numbers.EXPECTS_MARKERS + flag agreed.crc numbers.USES_CRC
+    flag agreed.send_markers numbers.SENDS_MARKERS + flag agreed.expect_markers numbers.EXPECTS_MARKERS
+    + flag agreed.crc numbers.USES_CRC + rtr_flag agreed.rtr
 
 -- the Send is solicited, it invalidated a region
 abbrev pub received_flags : Bool → Option Stag → ℕ

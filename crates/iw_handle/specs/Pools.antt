@@ -24,6 +24,6 @@ refusal_to_take e pd = option_map take_reason (endpoint.take_refusal e pd)
 abbrev pub refusal_to_open_shared : EndpointState → ℕ → ℕ → ℕ → ℕ → List ℕ → Option Refusal
 refusal_to_open_shared e number pd role options private =
     first_of (role_refusal role)
-    (first_of (config_refusal options (length private))
+    (first_of (config_refusal (role_in role) options (length private))
     (option_map open_shared_reason
     (endpoint.open_shared_refusal e number pd (role_in role) (config_of options private))))

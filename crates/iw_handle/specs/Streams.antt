@@ -39,7 +39,7 @@ use Rattle.iw_handle.specs.Words.{role_refusal, role_in, config_of, private_refu
 abbrev pub refusal_to_open : EndpointState → ℕ → ℕ → ℕ → ℕ → List ℕ → Option Refusal
 refusal_to_open e number pd role options private =
     first_of (role_refusal role)
-    (first_of (config_refusal options (length private))
+    (first_of (config_refusal (role_in role) options (length private))
     (option_map open_reason (endpoint.open_refusal e number pd (role_in role) (config_of options private))))
 
 -- a Request is answered with private data

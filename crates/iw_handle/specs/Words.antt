@@ -1,5 +1,5 @@
 -- The meaning of the numbers that C passes.
-use Rattle.std.specs.Prelude.{ℕ, ◌/◌, ◌%◌, ◌==◌, nat_lt, Bool, List, if◌then◌else◌, Option, None, Some, unwrap_or}
+use Rattle.std.specs.Prelude.{ℕ, ◌/◌, ◌%◌, ◌==◌, ◌&&◌, nat_lt, Bool, true, false, not, List, if◌then◌else◌, Option, None, Some, unwrap_or}
 use Rattle.arrayvec.specs.ArrayVec.{ArrayVec}
 use Rattle.iw_octets.specs.declared.stag.Stag.{Stag}
 use Rattle.iw_octets.specs.declared.payload.ReadRequest.{ReadRequest}
@@ -14,10 +14,6 @@ use Rattle.iw_codes.specs.declared.numbers.TheConstants as numbers
 use Rattle.iw_handle.specs.declared.refusal.Refusal.{Refusal}
 use Rattle.iw_handle.specs.declared.refusal.Refusal.TheVariants.{BadRole, PrivateTooLong, BadBits}
 use Rattle.iw_handle.specs.State.{first_of}
-
--- streams have the numbers 0 to 63: what is no octet names none, as 255 does
-abbrev pub stream_number : ℕ → ℕ
-stream_number n = if nat_lt n 256 then n else 255
 
 -- domains have the numbers 1 to 255: what is no octet names none, as 0 does
 abbrev pub domain_number : ℕ → ℕ
@@ -51,11 +47,14 @@ role_in n = unwrap_or (role_of n) Preset
 abbrev pub private_of : List ℕ → ArrayVec ℕ
 private_of octets = record { items = octets }
 
--- 4 is revision 2 of MPA
+-- 8 is the peer-to-peer model, 4 revision 2 of MPA
 abbrev pub establishment_of : ℕ → Establishment
-establishment_of options = if has_bit options numbers.ENHANCED then establishments.Enhanced else establishments.Plain
+establishment_of options =
+    if has_bit options numbers.PEER_TO_PEER then establishments.PeerToPeer
+    else if has_bit options numbers.ENHANCED then establishments.Enhanced
+    else establishments.Plain
 
--- a sum of 1 (markers are expected) and 2 (CRCs), with private data
+-- a sum of 1 (markers are expected), 2 (CRCs), 4 and 8, with private data
 abbrev pub config_of : ℕ → List ℕ → Config
 config_of options private =
     record { markers = has_bit options numbers.MARKERS; crc = has_bit options numbers.CRC; establishment = establishment_of options; private = private_of private }
@@ -66,9 +65,24 @@ role_refusal n = if nat_lt 2 n then Some BadRole else None
 abbrev pub private_refusal : ℕ → Option Refusal
 private_refusal n = if nat_lt 512 n then Some PrivateTooLong else None
 
+abbrev pub is_initiator : Role → Bool
+is_initiator Preset = false
+is_initiator Initiator = true
+is_initiator Responder = false
+
+-- an initiator asks for the peer-to-peer model, and by revision 2 alone (RFC 6581 9)
+abbrev pub model_refusal : Role → ℕ → Option Refusal
+model_refusal role options =
+    if not (has_bit options numbers.PEER_TO_PEER) then None
+    else if is_initiator role && has_bit options numbers.ENHANCED then None
+    else Some BadBits
+
+abbrev pub options_refusal : Role → ℕ → Option Refusal
+options_refusal role options = first_of (bits_refusal 16 options) (model_refusal role options)
+
 -- options, and so many octets of private data
-abbrev pub config_refusal : ℕ → ℕ → Option Refusal
-config_refusal options n = first_of (bits_refusal 8 options) (private_refusal n)
+abbrev pub config_refusal : Role → ℕ → ℕ → Option Refusal
+config_refusal role options n = first_of (options_refusal role options) (private_refusal n)
 
 -- the STag that a Send invalidates, if its flags, a sum of 1 (solicited) and 2 (invalidates), say so
 abbrev pub invalidated_by : ℕ → ℕ → Option Stag

@@ -71,7 +71,7 @@ fn deregister_these(
 }
 
 // Emits what is due behind what stands in a buffer.
-fn emit_onto(endpoint: &mut Endpoint, number: u8, out: &mut Vec<u8>) -> Result<Emitted, Refusal>
+fn emit_onto(endpoint: &mut Endpoint, number: u32, out: &mut Vec<u8>) -> Result<Emitted, Refusal>
     // The first refusal that applies; if none does, only `NoMemory`.
     ensures refused { IfSome (refusal_to_go_on endpoint.old number) (λ r. result ≡ Err r) }
     ensures memory { IfNone (refusal_to_go_on endpoint.old number) (IfErr result (λ e. e ≡ Refusal.NoMemory)) }
@@ -171,7 +171,7 @@ impl Handle {
     pub fn emit_onto(
         &mut self,
         alloc: Global,
-        number: u8,
+        number: u32,
         buffer: &mut Buffer,
     ) -> Result<Emitted, Refusal>
         ensures refused { IfSome (refusal_with self.old.state buffer.old.state (λ e octets. refusal_to_go_on e number))

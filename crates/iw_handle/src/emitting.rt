@@ -16,7 +16,7 @@ use std::alloc::Global;
 fn emit(
     endpoint: &mut Endpoint,
     alloc: Global,
-    number: u8,
+    number: u32,
     out: &mut [u8],
     len: &mut usize,
 ) -> Result<Emitted, Refusal>
@@ -58,7 +58,7 @@ fn emit(
 }
 
 // How far a stream is.
-fn progress(endpoint: &Endpoint, number: u8) -> Result<Progress, Refusal>
+fn progress(endpoint: &Endpoint, number: u32) -> Result<Progress, Refusal>
     ensures refused { result_err result ≡ refusal_to_go_on endpoint.now number }
     ensures progress { IfOk result (λ progress. progress ≡ progress_at endpoint.now number) }
 {
@@ -88,7 +88,7 @@ fn progress(endpoint: &Endpoint, number: u8) -> Result<Progress, Refusal>
 impl Handle {
     /// How far a stream is: how many octets it has emitted, its in-order point, and how many octets the next call of
     /// [`Handle::emit`] gives, 0 also if that would tell a fault.
-    pub fn progress(&mut self, alloc: Global, number: u8) -> Result<Progress, Refusal>
+    pub fn progress(&mut self, alloc: Global, number: u32) -> Result<Progress, Refusal>
         ensures refused { result_err result ≡ refusal_in self.old.state (λ e. refusal_to_go_on e number) }
         ensures progress { IfOk result (λ progress. Some progress ≡ told_in self.old.state (λ e. progress_at e number)) }
         ensures same { self.new.state ≡ self.old.state }
@@ -108,7 +108,7 @@ impl Handle {
     pub fn emit(
         &mut self,
         alloc: Global,
-        number: u8,
+        number: u32,
         out: &mut [u8],
         len: &mut usize,
     ) -> Result<Emitted, Refusal>

@@ -3,7 +3,7 @@ ghost use Rattle.std.specs.Prelude.{◌≡◌, ◌≤◌};
 ghost use Rattle.iw_handle.specs.Events.{kind_number, right_number, startup_number, stag_number};
 ghost use Rattle.iw_handle.specs.Events.{flag, agreed_flags, received_flags, rights_number, kept_number};
 ghost use Rattle.iw_handle.specs.Events.{message_event, fault_event, received_event, event_of};
-ghost use Rattle.iw_handle.specs.Events.{emitted_of, facts_of, peer_told};
+ghost use Rattle.iw_handle.specs.Events.{emitted_of, facts_of, rtr_flag, peer_told};
 ghost use Rattle.iw_handle.specs.Steps.{is_quiet};
 
 use iw_codes::numbers;
@@ -11,6 +11,7 @@ use iw_endpoint::{
     Agreed, Delivery, Emission, EnhancedData, Facts, Fault, Kind, Octets, Right, Rights, Stag,
     StartupFault, Step,
 };
+use iw_startup::Rtr;
 
 /// What a step of work did. Fields that have no meaning for its `kind` are 0, and so are those that are reserved.
 #[repr(C)]
@@ -175,13 +176,26 @@ fn flag(on: bool, value: u32) -> u32
     if on { value } else { 0 }
 }
 
-/// What both ends agreed on, a sum of 1 (this end sends markers), 2 (the peer sends markers) and 4 (CRCs are used).
+fn rtr_flag(rtr: Option<Rtr>) -> u32
+    ensures flag { result ≡ rtr_flag rtr }
+    ensures within { result ≤ 16 }
+{
+    match rtr {
+        None => 0,
+        Some(Rtr::Write) => numbers::RTR_WRITE,
+        Some(Rtr::Read) => numbers::RTR_READ,
+    }
+}
+
+/// What both ends agreed on, a sum of 1 (this end sends markers), 2 (the peer sends markers), 4 (CRCs are used), and 8 (a Write) or
+/// 16 (a Read) if this end sends an RTR first.
 pub fn agreed_flags(agreed: Agreed) -> u32
     ensures { result ≡ agreed_flags agreed }
 {
     flag(agreed.send_markers, numbers::SENDS_MARKERS)
         + flag(agreed.expect_markers, numbers::EXPECTS_MARKERS)
         + flag(agreed.crc, numbers::USES_CRC)
+        + rtr_flag(agreed.rtr)
 }
 
 fn received_flags(solicited: bool, invalidate: Option<Stag>) -> u32

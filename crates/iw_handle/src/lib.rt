@@ -28,5 +28,5 @@ pub use handle::Handle;
 pub use held::Held;
 pub use laws::codes_are_distinct;
 pub use refusal::{Refusal, buffer_reason, code};
-pub use words::{domain_number, read_request, stag_of, stream_number};
+pub use words::{domain_number, read_request, stag_of};
 pub use working::QUIET_STEPS;

@@ -48,7 +48,7 @@ fn post_shared(endpoint: &mut Endpoint, alloc: Global, pd: u8, n: usize) -> Resu
 // Opens a stream that shares the domain's pool. Role and options are numbers.
 fn open_shared(
     endpoint: &mut Endpoint,
-    number: u8,
+    number: u32,
     pd: u8,
     role: u32,
     options: u32,
@@ -64,7 +64,7 @@ fn open_shared(
     ensures err { OnErr result (endpoint.new ≡ endpoint.old) }
 {
     let role = role_of(role)?;
-    let config = config_of(options, private)?;
+    let config = config_of(role, options, private)?;
     match endpoint.open_shared(number, pd, role, config) {
         Ok(()) => Ok(()),
         Err(refusal) => Err(open_shared_reason(refusal)),
@@ -112,7 +112,7 @@ impl Handle {
     pub fn open_shared(
         &mut self,
         alloc: Global,
-        number: u8,
+        number: u32,
         pd: u8,
         role: u32,
         options: u32,

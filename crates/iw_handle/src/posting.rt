@@ -26,7 +26,7 @@ fn reason_of(refused: (CallRefusal<PostRefusal>, Request<Bytes>)) -> Refusal
 }
 
 // Posts a request, which the program knows by this token.
-fn post(held: &mut Held, number: u8, request: Request<Bytes>, token: u64) -> Result<(), Refusal>
+fn post(held: &mut Held, number: u32, request: Request<Bytes>, token: u64) -> Result<(), Refusal>
     // The first refusal that applies; if none does, only `NoMemory`.
     ensures refused { IfSome (refusal_to_post held.old.endpoint number request) (λ r. result ≡ Err r) }
     ensures memory { IfNone (refusal_to_post held.old.endpoint number request)
@@ -51,7 +51,7 @@ pub(crate) fn zeroes(alloc: Global, n: usize) -> Result<Vec<u8>, AllocError>
     Ok(octets)
 }
 
-fn lend(endpoint: &mut Endpoint, alloc: Global, number: u8, n: usize) -> Result<(), Refusal>
+fn lend(endpoint: &mut Endpoint, alloc: Global, number: u32, n: usize) -> Result<(), Refusal>
     // The first refusal that applies, or `NoMemory`.
     ensures refused { IfSome (refusal_to_lend endpoint.old number n) (λ _. IsErr result) }
     ensures why { IfErr result (λ e. (e ≡ Refusal.NoMemory) ⊎ (refusal_to_lend endpoint.old number n ≡ Some e)) }
@@ -76,7 +76,7 @@ impl Handle {
     pub fn post_send(
         &mut self,
         alloc: Global,
-        number: u8,
+        number: u32,
         octets: &[u8],
         flags: u32,
         stag: u32,
@@ -104,7 +104,7 @@ impl Handle {
     pub fn post_write(
         &mut self,
         alloc: Global,
-        number: u8,
+        number: u32,
         stag: Stag,
         to: u64,
         octets: &[u8],
@@ -131,7 +131,7 @@ impl Handle {
     pub fn post_read(
         &mut self,
         alloc: Global,
-        number: u8,
+        number: u32,
         request: ReadRequest,
         token: u64,
     ) -> Result<(), Refusal>
@@ -152,7 +152,7 @@ impl Handle {
 
     /// Posts a receive buffer of `n` zero octets, at most 16,777,216. An `Err` changes nothing. `NoMemory` may come in place
     /// of a refusal of the stream's, since the buffer is allocated first.
-    pub fn post_recv(&mut self, alloc: Global, number: u8, n: usize) -> Result<(), Refusal>
+    pub fn post_recv(&mut self, alloc: Global, number: u32, n: usize) -> Result<(), Refusal>
         ensures refused { IfSome (refusal_in self.old.state (λ e. refusal_to_lend e number n)) (λ _. IsErr result) }
         ensures why { IfErr result
             (λ e. (e ≡ Refusal.NoMemory) ⊎ (refusal_in self.old.state (λ e. refusal_to_lend e number n) ≡ Some e)) }
@@ -173,7 +173,7 @@ impl Handle {
 fn send_copy(
     held: &mut Held,
     alloc: Global,
-    number: u8,
+    number: u32,
     octets: &[u8],
     solicited: bool,
     invalidate: Option<Stag>,
@@ -200,7 +200,7 @@ fn send_copy(
 fn post_send(
     held: &mut Held,
     alloc: Global,
-    number: u8,
+    number: u32,
     octets: &[u8],
     flags: u32,
     stag: u32,
@@ -230,7 +230,7 @@ fn post_send(
 fn post_write(
     held: &mut Held,
     alloc: Global,
-    number: u8,
+    number: u32,
     stag: Stag,
     to: u64,
     octets: &[u8],

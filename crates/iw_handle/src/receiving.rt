@@ -18,7 +18,7 @@ use iw_endpoint::Endpoint;
 use std::alloc::Global;
 
 // Moves what a stream handed back, whole, and tells how many of its first octets are told.
-fn fetch_these(held: &mut Held, alloc: Global, number: u8, octets: &mut Vec<u8>) -> usize
+fn fetch_these(held: &mut Held, alloc: Global, number: u32, octets: &mut Vec<u8>) -> usize
     ensures octets { octets.new.items ≡ (line_at held.old.lines number).handed.buffer }
     ensures len { result ≡ (line_at held.old.lines number).handed.len }
     ensures after { held.new ≡ without_handed held.old number }
@@ -32,7 +32,7 @@ fn fetch_these(held: &mut Held, alloc: Global, number: u8, octets: &mut Vec<u8>)
 fn lend_these(
     endpoint: &mut Endpoint,
     alloc: Global,
-    number: u8,
+    number: u32,
     octets: &mut Vec<u8>,
 ) -> Result<(), Refusal>
     // The first refusal that applies; if none does, only `NoMemory`.
@@ -108,7 +108,7 @@ impl Handle {
     pub fn fetch_buffer(
         &mut self,
         alloc: Global,
-        number: u8,
+        number: u32,
         buffer: &mut Buffer,
         len: &mut usize,
     ) -> Result<(), Refusal>
@@ -139,7 +139,7 @@ impl Handle {
     pub fn post_recv_buffer(
         &mut self,
         alloc: Global,
-        number: u8,
+        number: u32,
         buffer: &mut Buffer,
     ) -> Result<(), Refusal>
         ensures refused { IfSome (refusal_with self.old.state buffer.old.state

@@ -17,7 +17,7 @@ use std::alloc::Global;
 // Opens a stream. Role and options are numbers.
 fn open_stream(
     endpoint: &mut Endpoint,
-    number: u8,
+    number: u32,
     pd: u8,
     role: u32,
     options: u32,
@@ -32,14 +32,14 @@ fn open_stream(
     ensures err { OnErr result (endpoint.new ≡ endpoint.old) }
 {
     let role = role_of(role)?;
-    let config = config_of(options, private)?;
+    let config = config_of(role, options, private)?;
     match endpoint.open(number, pd, role, config) {
         Ok(()) => Ok(()),
         Err(refusal) => Err(open_reason(refusal)),
     }
 }
 
-fn accept(endpoint: &mut Endpoint, number: u8, private: &[u8]) -> Result<Agreed, Refusal>
+fn accept(endpoint: &mut Endpoint, number: u32, private: &[u8]) -> Result<Agreed, Refusal>
     ensures refused { result_err result ≡ refusal_to_answer endpoint.old number private.now }
     ensures agreed { IfOk result (λ agreed. agreed ≡ agreement endpoint.old number) }
     ensures ok { OnOk result (endpoint.new ≡ accepted endpoint.old number (private_of private.now)) }
@@ -52,7 +52,7 @@ fn accept(endpoint: &mut Endpoint, number: u8, private: &[u8]) -> Result<Agreed,
     }
 }
 
-fn reject(endpoint: &mut Endpoint, number: u8, private: &[u8]) -> Result<(), Refusal>
+fn reject(endpoint: &mut Endpoint, number: u32, private: &[u8]) -> Result<(), Refusal>
     ensures refused { result_err result ≡ refusal_to_answer endpoint.old number private.now }
     ensures ok { OnOk result (endpoint.new ≡ rejected endpoint.old number (private_of private.now)) }
     ensures err { OnErr result (endpoint.new ≡ endpoint.old) }
@@ -67,7 +67,7 @@ fn reject(endpoint: &mut Endpoint, number: u8, private: &[u8]) -> Result<(), Ref
 // Copies the peer's private data.
 fn copy_private(
     endpoint: &Endpoint,
-    number: u8,
+    number: u32,
     out: &mut [u8],
     len: &mut usize,
 ) -> Result<(), Refusal>
@@ -85,12 +85,13 @@ fn copy_private(
 
 impl Handle {
     /// Opens a stream in a domain under a number from 0 to 63 ([`Endpoint::open`]). `role` is 0 (preset), 1 (initiator)
-    /// or 2 (responder). `options` is a sum of 1 (the peer is to send markers) and 2 (CRCs). An `Err` changes nothing;
-    /// `NoMemory` comes only if no other refusal applies.
+    /// or 2 (responder). `options` is a sum of 1 (the peer is to send markers), 2 (CRCs), 4 (revision 2 of MPA) and, of an
+    /// initiator and with 4, 8 (the peer-to-peer model). An `Err` changes nothing; `NoMemory` comes only if no other refusal
+    /// applies.
     pub fn open_stream(
         &mut self,
         alloc: Global,
-        number: u8,
+        number: u32,
         pd: u8,
         role: u32,
         options: u32,
@@ -115,7 +116,7 @@ impl Handle {
 
     /// Accepts the pending MPA Request, with this private data in the Reply ([`Endpoint::accept`]). An `Err` changes
     /// nothing.
-    pub fn accept(&mut self, alloc: Global, number: u8, private: &[u8]) -> Result<Agreed, Refusal>
+    pub fn accept(&mut self, alloc: Global, number: u32, private: &[u8]) -> Result<Agreed, Refusal>
         ensures refused { result_err result ≡ refusal_in self.old.state
             (λ e. refusal_to_answer e number private.now) }
         ensures agreed { IfOk result (λ agreed. Some agreed ≡ told_in self.old.state (λ e. agreement e number)) }
@@ -133,7 +134,7 @@ impl Handle {
 
     /// Rejects the pending MPA Request, with this private data in the Reply. The stream has then ended. An `Err`
     /// changes nothing.
-    pub fn reject(&mut self, alloc: Global, number: u8, private: &[u8]) -> Result<(), Refusal>
+    pub fn reject(&mut self, alloc: Global, number: u32, private: &[u8]) -> Result<(), Refusal>
         ensures refused { result_err result ≡ refusal_in self.old.state
             (λ e. refusal_to_answer e number private.now) }
         ensures ok { OnOk result
@@ -153,7 +154,7 @@ impl Handle {
     pub fn private(
         &mut self,
         alloc: Global,
-        number: u8,
+        number: u32,
         out: &mut [u8],
         len: &mut usize,
     ) -> Result<(), Refusal>
@@ -174,7 +175,7 @@ impl Handle {
 
     /// What the peer told in its start-up frame by the word of IRD and ORD, once that was read, if it has one
     /// ([`Endpoint::told`]).
-    pub fn told(&mut self, alloc: Global, number: u8) -> Result<Option<EnhancedData>, Refusal>
+    pub fn told(&mut self, alloc: Global, number: u32) -> Result<Option<EnhancedData>, Refusal>
         ensures refused { result_err result ≡ refusal_in self.old.state (λ e. stream_refusal e number) }
         ensures told { IfOk result (λ told. Some told ≡ told_in self.old.state (λ e. told_at e number)) }
         ensures same { self.new.state ≡ self.old.state }
@@ -191,7 +192,7 @@ impl Handle {
     }
 
     /// Reports that a stream's link broke: the stream has ended, and nothing more is emitted. An `Err` changes nothing.
-    pub fn break_link(&mut self, alloc: Global, number: u8) -> Result<(), Refusal>
+    pub fn break_link(&mut self, alloc: Global, number: u32) -> Result<(), Refusal>
         ensures refused { result_err result ≡ refusal_in self.old.state (λ e. stream_refusal e number) }
         ensures ok { OnOk result (self.new.state ≡ changed self.old.state (λ e. broken e number)) }
         ensures err { OnErr result (self.new.state ≡ self.old.state) }
@@ -209,7 +210,7 @@ impl Handle {
 
     /// Sets the maximum ULPDU of the frames that a stream emits from then on, 128 to 64,512 octets. An `Err` changes
     /// nothing.
-    pub fn set_mulpdu(&mut self, alloc: Global, number: u8, size: u32) -> Result<(), Refusal>
+    pub fn set_mulpdu(&mut self, alloc: Global, number: u32, size: u32) -> Result<(), Refusal>
         ensures refused { result_err result ≡ refusal_in self.old.state (λ e. size_refusal e number size) }
         ensures ok { OnOk result (self.new.state ≡ changed self.old.state (λ e. with_mulpdu e number size)) }
         ensures err { OnErr result (self.new.state ≡ self.old.state) }

@@ -3,8 +3,9 @@ ghost use Rattle.std.specs.Prelude.{◌≡◌, ◌<◌, ◌≤◌, length, Some,
 ghost use Rattle.std.specs.Option.{option_map};
 ghost use Rattle.std.specs.Result.{result_err};
 ghost use Rattle.iw_octets.specs.Stag.{stag_of};
-ghost use Rattle.iw_handle.specs.Words.{stream_number, domain_number, has_bit, rights_of, role_of, role_refusal, role_in};
+ghost use Rattle.iw_handle.specs.Words.{domain_number, has_bit, rights_of, role_of, role_refusal, role_in};
 ghost use Rattle.iw_handle.specs.Words.{bits_refusal, private_of, private_refusal, config_refusal, config_of, establishment_of};
+ghost use Rattle.iw_handle.specs.Words.{is_initiator, model_refusal, options_refusal};
 ghost use Rattle.iw_handle.specs.Words.{invalidated_by, read_request};
 
 use crate::refusal::Refusal;
@@ -20,13 +21,6 @@ pub fn stag_of(n: u32) -> Stag
         (n / 0x100 % 0x10000) as u16,
         (n % 0x100) as u8,
     )
-}
-
-/// The number of a stream: above 255 it names none, and so it is 255.
-pub fn stream_number(n: u32) -> u8
-    ensures { result ≡ stream_number n }
-{
-    if n < 256 { n as u8 } else { 255 }
 }
 
 /// The number of a domain: above 255 it names none, and so it is 0.
@@ -92,24 +86,56 @@ pub(crate) fn private_of(octets: &[u8]) -> Result<PrivateData, Refusal>
     }
 }
 
-/// The establishment of a sum of options: 4 is revision 2 of MPA.
+/// The establishment of a sum of options: 8 is the peer-to-peer model, 4 revision 2 of MPA.
 fn establishment_of(options: u32) -> Establishment
     ensures { result ≡ establishment_of options }
 {
+    if has_bit(options, numbers::PEER_TO_PEER) {
+        return Establishment::PeerToPeer;
+    }
     if has_bit(options, numbers::ENHANCED) {
-        Establishment::Enhanced
-    } else {
-        Establishment::Plain
+        return Establishment::Enhanced;
+    }
+    Establishment::Plain
+}
+
+fn is_initiator(role: Role) -> bool
+    ensures { result ≡ is_initiator role }
+{
+    match role {
+        Role::Initiator => true,
+        Role::Preset | Role::Responder => false,
     }
 }
 
-/// The configuration of a stream, from a sum of 1 (the peer is to send markers), 2 (CRCs) and 4 (revision 2 of MPA), and
-/// private data.
-pub(crate) fn config_of(options: u32, private: &[u8]) -> Result<Config, Refusal>
-    ensures refused { result_err result ≡ config_refusal options (length private.now) }
+// Whether the peer-to-peer model, if the options have it, is an initiator's with revision 2.
+fn check_model(role: Role, options: u32) -> Result<(), Refusal>
+    ensures { result_err result ≡ model_refusal role options }
+{
+    if !has_bit(options, numbers::PEER_TO_PEER) {
+        return Ok(());
+    }
+    if is_initiator(role) && has_bit(options, numbers::ENHANCED) {
+        return Ok(());
+    }
+    Err(Refusal::BadBits)
+}
+
+// Whether these are options of such a stream.
+fn check_options(role: Role, options: u32) -> Result<(), Refusal>
+    ensures { result_err result ≡ options_refusal role options }
+{
+    check_bits(16, options)?;
+    check_model(role, options)
+}
+
+/// The configuration of a stream, from its role, a sum of 1 (the peer is to send markers), 2 (CRCs), 4 (revision 2 of MPA) and 8
+/// (the peer-to-peer model), and private data.
+pub(crate) fn config_of(role: Role, options: u32, private: &[u8]) -> Result<Config, Refusal>
+    ensures refused { result_err result ≡ config_refusal role options (length private.now) }
     ensures config { IfOk result (λ config. config ≡ config_of options private.now) }
 {
-    check_bits(8, options)?;
+    check_options(role, options)?;
     Ok(Config {
         markers: has_bit(options, numbers::MARKERS),
         crc: has_bit(options, numbers::CRC),

@@ -25,7 +25,7 @@ pub const QUIET_STEPS: u32 = 4_095;
 
 fn deliver(
     endpoint: &mut Endpoint,
-    number: u8,
+    number: u32,
     sequence: u32,
     octets: &[u8],
 ) -> Result<Delivery, Refusal>
@@ -46,7 +46,7 @@ fn deliver(
 
 // Keeps what a step hands back, and drops the token of a message that is done or given up.
 #[inline(always)]
-fn keep(step: Step<Octets>, number: u8, lines: &mut Lines)
+fn keep(step: Step<Octets>, number: u32, lines: &mut Lines)
     ensures { lines.new ≡ lines_by step number lines.old }
 {
     match step {
@@ -69,7 +69,7 @@ fn keep(step: Step<Octets>, number: u8, lines: &mut Lines)
 
 // Does one step at an endpoint.
 #[inline(always)]
-fn step(endpoint: &mut Endpoint, number: u8) -> Result<Step<Octets>, Refusal>
+fn step(endpoint: &mut Endpoint, number: u32) -> Result<Step<Octets>, Refusal>
     // The first refusal that applies; if none does, only `NoMemory`.
     ensures refused { IfSome (refusal_to_work endpoint.old number) (λ r. result ≡ Err r) }
     ensures memory { IfNone (refusal_to_work endpoint.old number) (IfErr result (λ e. e ≡ Refusal.NoMemory)) }
@@ -92,7 +92,7 @@ fn step(endpoint: &mut Endpoint, number: u8) -> Result<Step<Octets>, Refusal>
 }
 
 // Does steps one after another: at most `most` quiet ones, then the one that it reports.
-fn steps(held: &mut Held, number: u8, most: u32, event: &mut Event) -> Result<(), Refusal>
+fn steps(held: &mut Held, number: u32, most: u32, event: &mut Event) -> Result<(), Refusal>
     ensures steps { WorksOn most held.old number (result_err result) event.new held.new }
     ensures kept { OnErr result (event.new ≡ event.old) }
 {
@@ -112,7 +112,7 @@ fn steps(held: &mut Held, number: u8, most: u32, event: &mut Event) -> Result<()
 
 // Does one step.
 #[inline(always)]
-fn work(held: &mut Held, number: u8, event: &mut Event) -> Result<(), Refusal>
+fn work(held: &mut Held, number: u32, event: &mut Event) -> Result<(), Refusal>
     // The first refusal that applies; if none does, only `NoMemory`.
     ensures refused { IfSome (refusal_to_work held.old.endpoint number) (λ r. result ≡ Err r) }
     ensures memory { IfNone (refusal_to_work held.old.endpoint number) (IfErr result (λ e. e ≡ Refusal.NoMemory)) }
@@ -129,7 +129,7 @@ fn work(held: &mut Held, number: u8, event: &mut Event) -> Result<(), Refusal>
 fn fetch(
     held: &mut Held,
     alloc: Global,
-    number: u8,
+    number: u32,
     out: &mut [u8],
     len: &mut usize,
 ) -> Result<(), Refusal>
@@ -148,7 +148,7 @@ fn fetch(
 impl Handle {
     /// Sets the sequence number of the peer's first octet ([`Endpoint::first_number`]). `Late`: octets were delivered
     /// on the stream before. An `Err` changes nothing.
-    pub fn first_number(&mut self, alloc: Global, number: u8, first: u32) -> Result<(), Refusal>
+    pub fn first_number(&mut self, alloc: Global, number: u32, first: u32) -> Result<(), Refusal>
         ensures refused { result_err result ≡ refusal_in self.old.state (λ e. first_refusal e number) }
         ensures ok { OnOk result (self.new.state ≡ changed self.old.state (λ e. with_first e number first)) }
         ensures err { OnErr result (self.new.state ≡ self.old.state) }
@@ -169,7 +169,7 @@ impl Handle {
     pub fn deliver(
         &mut self,
         alloc: Global,
-        number: u8,
+        number: u32,
         sequence: u32,
         octets: &[u8],
     ) -> Result<Delivery, Refusal>
@@ -197,7 +197,7 @@ impl Handle {
     /// stream hands back the next one. An `Err`
     /// changes nothing. `TooFar` comes if the in-order point is past 2^62; `NoMemory` only if no other refusal applies
     /// and a frame is judged before its turn.
-    pub fn work(&mut self, alloc: Global, number: u8, event: &mut Event) -> Result<(), Refusal>
+    pub fn work(&mut self, alloc: Global, number: u32, event: &mut Event) -> Result<(), Refusal>
         ensures refused { IfSome (refusal_in self.old.state (λ e. refusal_to_work e number)) (λ r. result ≡ Err r) }
         ensures memory { IfNone (refusal_in self.old.state (λ e. refusal_to_work e number))
             (IfErr result (λ e. e ≡ Refusal.NoMemory)) }
@@ -219,7 +219,7 @@ impl Handle {
     /// The quiet steps, which the program need not act on, are `Placed`, `Buffered`, `Requested`, `Tried` and `Passed`;
     /// one of them is reported only if it is the 4,096th. An `Err` leaves the steps before it done, and changes nothing
     /// else.
-    pub fn work_on(&mut self, alloc: Global, number: u8, event: &mut Event) -> Result<(), Refusal>
+    pub fn work_on(&mut self, alloc: Global, number: u32, event: &mut Event) -> Result<(), Refusal>
         ensures closed { self.old.state ≡ None → (result ≡ Err Refusal.Closed) × (self.new.state ≡ None) }
         ensures steps { IfSome self.old.state (λ held. IsSomeAnd self.new.state
             (λ after. WorksOn QUIET_STEPS held number (result_err result) event.new after)) }
@@ -238,7 +238,7 @@ impl Handle {
     pub fn fetch(
         &mut self,
         alloc: Global,
-        number: u8,
+        number: u32,
         out: &mut [u8],
         len: &mut usize,
     ) -> Result<(), Refusal>

@@ -40,7 +40,7 @@ impl Lines {
 
     /// Keeps what a stream handed back, to be fetched; what was kept for it before is freed. It does nothing for a number above
     /// 63.
-    pub fn keep(&mut self, number: u8, handed: Handed)
+    pub fn keep(&mut self, number: u32, handed: Handed)
         ensures { self.new ≡ with_line self.old number (with_handed (line_at self.old number) handed) }
     {
         if let Some(line) = self.places.get_mut(number as usize) {
@@ -49,7 +49,7 @@ impl Lines {
     }
 
     /// The octets that can be fetched at a stream; none if nothing was handed back.
-    pub fn told(&self, number: u8) -> &[u8]
+    pub fn told(&self, number: u32) -> &[u8]
         ensures { result.now ≡ told_of (line_at self.now number).handed }
     {
         match self.places.get(number as usize) {
@@ -59,7 +59,7 @@ impl Lines {
     }
 
     /// Hands out what can be fetched at a stream, and keeps it no longer.
-    pub fn fetch(&mut self, alloc: Global, number: u8) -> Handed
+    pub fn fetch(&mut self, alloc: Global, number: u32) -> Handed
         ensures handed { result ≡ (line_at self.old number).handed }
         ensures after { self.new ≡ with_line self.old number (with_handed (line_at self.old number) nothing_handed) }
     {
@@ -70,7 +70,7 @@ impl Lines {
     }
 
     /// Puts a token behind those of a stream, if they are fewer than 256.
-    pub fn push(&mut self, number: u8, token: u64)
+    pub fn push(&mut self, number: u32, token: u64)
         ensures { self.new ≡ with_line self.old number (with_token (line_at self.old number) token) }
     {
         if let Some(line) = self.places.get_mut(number as usize) {
@@ -79,7 +79,7 @@ impl Lines {
     }
 
     /// The oldest token of a stream; 0 if it has none.
-    pub fn oldest(&self, number: u8) -> u64
+    pub fn oldest(&self, number: u32) -> u64
         ensures { result ≡ oldest_token (line_at self.now number) }
     {
         match self.places.get(number as usize) {
@@ -89,7 +89,7 @@ impl Lines {
     }
 
     /// Takes the oldest token of a stream out, if it has one.
-    pub fn pop(&mut self, number: u8)
+    pub fn pop(&mut self, number: u32)
         ensures { self.new ≡ with_line self.old number (without_oldest (line_at self.old number)) }
     {
         if let Some(line) = self.places.get_mut(number as usize) {

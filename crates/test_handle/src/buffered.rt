@@ -4,7 +4,7 @@ use iw_handle::{Handle, NO_EVENT, Refusal};
 use std::alloc::Global;
 use std::test::Fail;
 
-const STREAM: u8 = 0;
+const STREAM: u32 = 0;
 
 // A handle with an open stream in domain 1, which has a pool.
 fn ready(alloc: Global) -> Result<Handle, Fail> {

@@ -4,7 +4,7 @@ use iw_handle::{Handle, NO_EVENT, Refusal, read_request, stag_of};
 use std::alloc::Global;
 use std::test::Fail;
 
-const STREAM: u8 = 0;
+const STREAM: u32 = 0;
 
 const PRESET: u32 = 0;
 
@@ -256,7 +256,7 @@ fn broken(rt: HostRuntime) -> Result<(), Fail> {
 }
 
 // Does a step at an end, and returns the token that is told.
-fn told_next(alloc: Global, end: &mut End, number: u8) -> Result<u64, Fail> {
+fn told_next(alloc: Global, end: &mut End, number: u32) -> Result<u64, Fail> {
     let mut event = NO_EVENT;
     end.handle.work(alloc, number, &mut event)?;
     Ok(event.token)
@@ -276,7 +276,7 @@ fn tokens(rt: HostRuntime) -> Result<(), Fail> {
 }
 
 // Gives a stream a receive buffer, and has it hand that back.
-fn hands_back(alloc: Global, end: &mut End, number: u8, n: usize) -> Result<(), Fail> {
+fn hands_back(alloc: Global, end: &mut End, number: u32, n: usize) -> Result<(), Fail> {
     end.handle.post_recv(alloc, number, n)?;
     end.handle.break_link(alloc, number)?;
     told_next(alloc, end, number)?;

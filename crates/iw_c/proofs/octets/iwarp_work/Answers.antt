@@ -1,22 +1,17 @@
 use Rattle.std.proofs.Common.{◌≡◌, ℤ, pos, w32, to_z, of_z, rules}
 use Rattle.std.specs.Result.{result_err}
 use Rattle.iw_handle.specs.Refusals.{code_of}
-use Rattle.iw_handle.specs.State.{refusal_in}
-use Rattle.iw_handle.specs.Streams.{refusal_to_work}
-use Rattle.iw_handle.specs.Words.{stream_number}
-use Rattle.iw_c.proofs.Coded.{coded_refusal_as, coded_memory_as}
+use Rattle.iw_c.proofs.Coded.{coded_refusal, coded_memory}
 use Rattle.iw_c.proofs.octets.iwarp_work.Goals as goal
 
 pub returns-clause-refused : goal.returns-clause-refused
 returns-clause-refused c =
     let n : ℤ = to_z w32 (of_z w32 c.code.result) in
     let is : n ≡ pos (code_of (result_err c.work.result)) = search rules in
-    let s : c.stream_number.result ≡ stream_number c.args.number = c.stream_number.ensures in
-    coded_refusal_as _ _ c.work.result n (λ i. refusal_in c.args.handle.now.state (λ e. refusal_to_work e (s i))) c.work.ensures.refused is
+    coded_refusal _ c.work.result n c.work.ensures.refused is
 
 pub returns-clause-memory : goal.returns-clause-memory
 returns-clause-memory c =
     let n : ℤ = to_z w32 (of_z w32 c.code.result) in
     let is : n ≡ pos (code_of (result_err c.work.result)) = search rules in
-    let s : c.stream_number.result ≡ stream_number c.args.number = c.stream_number.ensures in
-    coded_memory_as _ _ c.work.result n (λ i. refusal_in c.args.handle.now.state (λ e. refusal_to_work e (s i))) c.work.ensures.memory is
+    coded_memory _ c.work.result n c.work.ensures.memory is

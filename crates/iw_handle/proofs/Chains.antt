@@ -1,0 +1,34 @@
+-- Reasons one after another: none of the first holds, and the last is a callee's.
+use Rattle.std.proofs.Common.{◌≡◌, ◌∙◌, ap, subst, sym, Option, Some, None, Result, Ok, Err}
+use Rattle.std.specs.Prelude.{IfSome, IfNone, IfErr}
+use Rattle.std.specs.Option.{option_map}
+use Rattle.std.specs.Result.{result_err}
+use Rattle.std.proofs.lemmas.Option.{same_Some}
+use Rattle.iw_endpoint.specs.Endpoint.{EndpointState}
+use Rattle.iw_handle.specs.declared.held.Held.{Held}
+use Rattle.iw_handle.specs.declared.refusal.Refusal.{Refusal}
+use Rattle.iw_handle.specs.State.{State, first_of, refusal_in}
+
+pub chain_refused : (P : Refusal → Type 0) (a b c : Option Refusal) → a ≡ None → b ≡ None → IfSome c P → IfSome (first_of a (first_of b c)) P
+chain_refused P a b c na nb = subst (λ o. IfSome o P) (λ i. first_of (sym na i) (first_of (sym nb i) c))
+
+pub chain_memory : (P : Type 0) (a b c : Option Refusal) → a ≡ None → b ≡ None → IfNone c P → IfNone (first_of a (first_of b c)) P
+chain_memory P a b c na nb = subst (λ o. IfNone o P) (λ i. first_of (sym na i) (first_of (sym nb i) c))
+
+module _ {A R : Type 0} (reason : R → Refusal) where
+  pub reason_refused : (o : Option R) (x : R) (answer : Result A R) (y : Refusal) → answer ≡ Err x → y ≡ reason x → IfSome o (λ r. answer ≡ Err r) → IfSome (option_map reason o) (λ r. y ≡ r)
+  reason_refused None x answer y is same refused = tt
+  reason_refused (Some z) x answer y is same refused = same ∙ ap reason (same_Some x z (ap result_err (sym is ∙ refused)))
+
+  pub reason_memory : (o : Option R) (x none : R) (answer : Result A R) (y : Refusal) → answer ≡ Err x → y ≡ reason x → IfNone o (IfErr answer (λ e. e ≡ none)) → IfNone (option_map reason o) (y ≡ reason none)
+  reason_memory None x none answer y is same memory = same ∙ ap reason (subst (λ r. IfErr r (λ e. e ≡ none)) is memory)
+  reason_memory (Some z) x none answer y is same memory = tt
+
+pub err_refused : (A : Type 0) (o : Option Refusal) (y : Refusal) → IfSome o (λ r. y ≡ r) → IfSome o (λ r. ◌≡◌ {A = Result A Refusal} (Err y) (Err r))
+err_refused A None y is = tt
+err_refused A (Some z) y is = ap Err is
+
+-- a refusal at the endpoint is the handle's
+pub refused_in : (P : Refusal → Type 0) (refusal : EndpointState → Option Refusal) (held : Held) (state : State) →
+    Some held ≡ state → IfSome (refusal held.endpoint) P → IfSome (refusal_in state refusal) P
+refused_in P refusal held state s = subst (λ o. IfSome o P) (λ i. refusal_in (s i) refusal)

@@ -1,0 +1,34 @@
+use Rattle.std.proofs.Common.{◌≡◌, ◌∙◌, sym, subst, None, Err, length}
+use Rattle.std.specs.Prelude.{IfSome, IfNone, IfErr}
+use Rattle.std.specs.Option.{option_map}
+use Rattle.iw_endpoint.specs.declared.refusal.OpenSharedRefusal.TheVariants.{NoMemory}
+use Rattle.iw_endpoint.specs.Endpoint.{open_shared_refusal}
+use Rattle.iw_handle.specs.Refusals.{open_shared_reason}
+use Rattle.iw_handle.specs.Words.{role_refusal, role_in, config_refusal, config_of}
+use Rattle.iw_handle.proofs.Chains.{chain_refused, chain_memory, reason_refused, reason_memory, err_refused}
+use Rattle.iw_handle.proofs.pools.open_shared.Goals as goal
+
+pub returns-in-Err-clause-refused : goal.returns-in-Err-clause-refused
+returns-in-Err-clause-refused c =
+    let n = length c.args.private.now in
+    let role : c.in_ok-role.role ≡ role_in c.args.role = c.in_ok-role.ensures.role in
+    let config : c.in_ok-config.config ≡ config_of c.args.options c.args.private.now = c.in_ok-config.ensures.config in
+    let no_role : role_refusal c.args.role ≡ None = sym c.in_ok-role.ensures.refused in
+    let no_config : config_refusal (role_in c.args.role) c.args.options n ≡ None = (λ i. config_refusal (sym role i) c.args.options n) ∙ sym c.in_ok-config.ensures.refused in
+    let o = open_shared_refusal c.args.endpoint.now c.args.number c.args.pd (role_in c.args.role) (config_of c.args.options c.args.private.now) in
+    let refused : IfSome o (λ r. c.open_shared.result ≡ Err r) = subst (λ q. IfSome q (λ r. c.open_shared.result ≡ Err r)) (λ i. open_shared_refusal c.args.endpoint.now c.args.number c.args.pd (role i) (config i)) c.open_shared.ensures.refused in
+    chain_refused (λ r. Err c.open_shared_reason.result ≡ Err r) (role_refusal c.args.role) (config_refusal (role_in c.args.role) c.args.options n) (option_map open_shared_reason o) no_role no_config
+    (err_refused (Unit {0}) (option_map open_shared_reason o) c.open_shared_reason.result
+    (reason_refused open_shared_reason o c.in-Err.refusal c.open_shared.result c.open_shared_reason.result c.in-Err.is c.open_shared_reason.ensures refused))
+
+pub returns-in-Err-clause-memory : goal.returns-in-Err-clause-memory
+returns-in-Err-clause-memory c =
+    let n = length c.args.private.now in
+    let role : c.in_ok-role.role ≡ role_in c.args.role = c.in_ok-role.ensures.role in
+    let config : c.in_ok-config.config ≡ config_of c.args.options c.args.private.now = c.in_ok-config.ensures.config in
+    let no_role : role_refusal c.args.role ≡ None = sym c.in_ok-role.ensures.refused in
+    let no_config : config_refusal (role_in c.args.role) c.args.options n ≡ None = (λ i. config_refusal (sym role i) c.args.options n) ∙ sym c.in_ok-config.ensures.refused in
+    let o = open_shared_refusal c.args.endpoint.now c.args.number c.args.pd (role_in c.args.role) (config_of c.args.options c.args.private.now) in
+    let memory : IfNone o (IfErr c.open_shared.result (λ e. e ≡ NoMemory)) = subst (λ q. IfNone q (IfErr c.open_shared.result (λ e. e ≡ NoMemory))) (λ i. open_shared_refusal c.args.endpoint.now c.args.number c.args.pd (role i) (config i)) c.open_shared.ensures.memory in
+    chain_memory (c.open_shared_reason.result ≡ open_shared_reason NoMemory) (role_refusal c.args.role) (config_refusal (role_in c.args.role) c.args.options n) (option_map open_shared_reason o) no_role no_config
+    (reason_memory open_shared_reason o c.in-Err.refusal NoMemory c.open_shared.result c.open_shared_reason.result c.in-Err.is c.open_shared_reason.ensures memory)
