@@ -2,53 +2,63 @@ ghost use Rattle.iw_stream.specs.Kept.{IsWithinBuffer};
 
 use anyhow::{Result, bail};
 use bytes::Bytes;
-use iw_endpoint::{
-    Config, Emission, Endpoint, Establishment, MAX_PLACE, Octets, PrivateData, Request, Rights,
-    Role, Stag, Step,
+use iw_connection::{
+    CallRefusal, Endpoint, Filled, Intake, Octets, Step, StreamNumber, close, fill, next, take,
 };
+use iw_endpoint::{Config, Establishment, PrivateData, Request, Rights, Role, Stag};
 use std::alloc::Global;
+use std::io::{ErrorKind, Read, Write};
 use std::rt::Runtime;
 use std::str::from_utf8;
 
 const DOMAIN: u8 = 1;
 
-const STREAM: u8 = 0;
+pub(crate) const STREAM: StreamNumber = 0;
 
-/// One end of a connection: an endpoint with one stream, and the sequence number of the octet that comes next.
+// About how many octets are written at a time, so that one stream does not hold up others.
+const MOST_WRITTEN: usize = 65_536;
+
+/// One end of a connection: an endpoint with one stream.
 #[derive(Drop)]
 pub(crate) struct End {
     name: &'static str,
     endpoint: Endpoint,
-    next: u32,
+    // What is written next.
+    out: Vec<u8>,
     // The private data with which a responder accepts.
     private: PrivateData,
 }
 
-/// The sequence number after these octets, given that of the first. It wraps.
-fn number_after(number: u32, octets: &[u8]) -> u32 {
-    ((u64::from(number) + octets.len() as u64) % (1 << 32)) as u32
+// Whether a read or write that failed so is to be made again later.
+fn is_for_later(kind: ErrorKind) -> bool {
+    kind == ErrorKind::WouldBlock || kind == ErrorKind::Interrupted
+}
+
+/// An endpoint with a domain and a stream in it.
+pub(crate) fn open_endpoint(alloc: Global, role: Role) -> Result<Endpoint> {
+    let mut endpoint = Endpoint::new(alloc)?;
+    if let Err(refusal) = endpoint.add_domain(DOMAIN) {
+        bail!("add_domain: {refusal:?}");
+    }
+    let config = Config {
+        markers: true,
+        crc: true,
+        establishment: Establishment::Plain,
+        private: PrivateData::new(),
+    };
+    if let Err(refusal) = endpoint.open(STREAM, DOMAIN, role, config) {
+        bail!("open: {refusal:?}");
+    }
+    Ok(endpoint)
 }
 
 impl End {
-    /// An end with a domain and a stream in it.
+    /// An end that has nothing posted.
     pub(crate) fn open(alloc: Global, name: &'static str, role: Role) -> Result<End> {
-        let mut endpoint = Endpoint::new(alloc)?;
-        if let Err(refusal) = endpoint.add_domain(DOMAIN) {
-            bail!("add_domain: {refusal:?}");
-        }
-        let config = Config {
-            markers: true,
-            crc: true,
-            establishment: Establishment::Plain,
-            private: PrivateData::new(),
-        };
-        if let Err(refusal) = endpoint.open(STREAM, DOMAIN, role, config) {
-            bail!("open: {refusal:?}");
-        }
         Ok(End {
             name,
-            endpoint,
-            next: 0,
+            endpoint: open_endpoint(alloc, role)?,
+            out: Vec::new(alloc),
             private: PrivateData::new(),
         })
     }
@@ -88,88 +98,54 @@ impl End {
         }
     }
 
-    /// Call it when octets came on the socket.
-    pub(crate) fn octets_came<R: Runtime + AllocGlobal>(
-        &mut self,
-        rt: &R,
-        octets: &[u8],
-    ) -> Result<()> {
-        if let Err(refusal) = self.endpoint.deliver(STREAM, self.next, octets) {
-            bail!("deliver: {refusal:?}");
+    /// Call it when the socket is readable.
+    pub(crate) fn is_readable<R, S>(&mut self, rt: &R, socket: &mut S) -> Result<()>
+    where
+        R: Runtime + AllocGlobal,
+        S: Read,
+    {
+        match take(&mut self.endpoint, STREAM, socket) {
+            Ok(Intake::Came(_) | Intake::Full) => self.act(rt),
+            Ok(Intake::End) => self.closed(rt),
+            Ok(Intake::Gap) => bail!("take: octets were delivered past a gap"),
+            Err(CallRefusal::Refused(error)) if is_for_later(error.kind()) => Ok(()),
+            Err(refusal) => bail!("take: {refusal:?}"),
         }
-        self.next = number_after(self.next, octets);
-        self.work(rt)
     }
 
-    /// Call it when the socket is writable. It fills `out` with all that is to be written.
-    pub(crate) fn is_writable<R: Runtime + AllocGlobal>(
-        &mut self,
-        rt: &R,
-        out: &mut Vec<u8>,
-    ) -> Result<()> {
-        out.clear();
-        for _ in 0..u64::MAX {
-            if !self.emit(out)? {
-                break;
-            }
-        }
-        if !out.is_empty() {
-            println!(rt; "{}: {} octets go out", self.name, out.len())?;
-        }
-        // Posted messages may be done now.
-        self.work(rt)
+    /// Call it when the socket is writable. Returns whether there was anything to write.
+    pub(crate) fn is_writable<R, S>(&mut self, rt: &R, socket: &mut S) -> Result<bool>
+    where
+        R: Runtime + AllocGlobal,
+        S: Write,
+    {
+        self.out.clear();
+        let filled = fill(&mut self.endpoint, STREAM, &mut self.out, MOST_WRITTEN)?;
+        socket.write_all(self.out.as_slice())?;
+        // What was posted may be done now.
+        self.act(rt)?;
+        Ok(filled != Filled::All || !self.out.is_empty())
     }
 
     /// Call it when the connection closed. All that was posted and is not done is handed back.
     pub(crate) fn closed<R: Runtime + AllocGlobal>(&mut self, rt: &R) -> Result<()> {
-        if let Err(missing) = self.endpoint.break_link(STREAM) {
-            bail!("break_link: {missing:?}");
-        }
-        self.work(rt)
+        close(&mut self.endpoint, STREAM)?;
+        self.act(rt)
     }
 
-    // Appends what is to be written next. Returns whether there was anything to do.
-    fn emit(&mut self, out: &mut Vec<u8>) -> Result<bool> {
-        match self.endpoint.sent(STREAM) {
-            Ok(sent) if sent <= MAX_PLACE => {}
-            _ => bail!("too many octets were emitted"),
-        }
-        match self.endpoint.emit(STREAM, out) {
-            // After a fault the Terminate is due.
-            Ok(Emission::Frame { .. } | Emission::Fetched { .. } | Emission::Fault(_)) => Ok(true),
-            Ok(Emission::Nothing) => Ok(false),
-            Err(refusal) => bail!("emit: {refusal:?}"),
-        }
-    }
-
-    // Works until there is nothing to do.
-    fn work<R: Runtime + AllocGlobal>(&mut self, rt: &R) -> Result<()> {
+    // Does what the steps ask for, until there is nothing to do.
+    fn act<R: Runtime + AllocGlobal>(&mut self, rt: &R) -> Result<()> {
         for _ in 0..u64::MAX {
-            if !self.step(rt)? {
-                return Ok(());
+            match next(&mut self.endpoint, STREAM)? {
+                Step::Idle => break,
+                step => self.act_on(rt, step)?,
             }
         }
         Ok(())
     }
 
-    // Does one step. Returns whether there was anything to do.
-    fn step<R: Runtime + AllocGlobal>(&mut self, rt: &R) -> Result<bool> {
-        match self.endpoint.in_order_point(STREAM) {
-            Ok(point) if point <= MAX_PLACE => {}
-            _ => bail!("too many octets came"),
-        }
-        match self.endpoint.work(STREAM) {
-            Ok(Step::Idle) => Ok(false),
-            Ok(step) => {
-                self.tell(rt, step)?;
-                Ok(true)
-            }
-            Err(missing) => bail!("work: {missing:?}"),
-        }
-    }
-
     // Prints a step, and does what the application has to do after it.
-    fn tell<R: Runtime + AllocGlobal>(&mut self, rt: &R, step: Step<Octets>) -> Result<()>
+    fn act_on<R: Runtime + AllocGlobal>(&mut self, rt: &R, step: Step<Octets>) -> Result<()>
         requires { IsWithinBuffer step }
     {
         let name = self.name;

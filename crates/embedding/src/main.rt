@@ -2,21 +2,22 @@
 //!
 //! `a` opens the connection. `b` accepts it and names in its private data the region that `a` may use. `a` writes
 //! there, sends a message, and reads back what it wrote. Then it invalidates the region by a Send and reads from it all
-//! the same: `b` ends the stream by a Terminate, and each end gets back what it had posted. Each end prints what it
-//! does.
+//! the same: `b` ends the stream by a Terminate, and each end gets back what it had posted. Then `c` opens a connection to
+//! `d`, which gets the octets of a message out of order, and hands them to its endpoint with their sequence numbers. Each
+//! end prints what it does.
 #![tactic(auto)]
 
 mod end;
+mod numbered;
 
 use anyhow::{Result, bail};
 use bytes::Bytes;
 use end::End;
 use iw_endpoint::{Message, ReadRequest, Request, Rights, Role, Stag};
+use numbered::NumberedEnd;
 use std::alloc::Global;
+use std::collections::VecDeque;
 use std::rt::Runtime;
-
-// The most octets that a read of the socket gives.
-const READ_OCTETS: usize = 100;
 
 // What a peer may do with a region.
 const SHARED: Rights = Rights {
@@ -35,23 +36,26 @@ const SINK: Rights = Rights {
 
 const TEXT: &[u8] = b"remote memory";
 
-// Carries what one end has to write to the other, read by read. Returns whether there was anything.
+// Carries what one end has to write to the other. Returns whether there was anything.
 fn pass<R: Runtime + AllocGlobal>(
     rt: &R,
     from: &mut End,
     to: &mut End,
-    wire: &mut Vec<u8>,
+    wire: &mut VecDeque<u8>,
 ) -> Result<bool> {
-    from.is_writable(rt, wire)?;
-    for read in wire.as_slice().chunks(READ_OCTETS) {
-        to.octets_came(rt, read)?;
+    let went = from.is_writable(rt, wire)?;
+    for _ in 0..u64::MAX {
+        if wire.is_empty() {
+            break;
+        }
+        to.is_readable(rt, wire)?;
     }
-    Ok(!wire.is_empty())
+    Ok(went)
 }
 
 // Carries what both ends have to write to the other, until neither has anything.
 fn carry<R: Runtime + AllocGlobal>(rt: &R, a: &mut End, b: &mut End) -> Result<()> {
-    let mut wire = Vec::new(rt.alloc());
+    let mut wire = VecDeque::new(rt.alloc());
     for _ in 0..u64::MAX {
         let came = pass(rt, a, b, &mut wire)?;
         let went = pass(rt, b, a, &mut wire)?;
@@ -132,10 +136,68 @@ fn talk<R: Runtime + AllocGlobal>(rt: &R, a: &mut End, b: &mut End) -> Result<()
     b.closed(rt)
 }
 
-fn run<R: Runtime + AllocGlobal>(rt: &R) -> Result<()> {
+// Carries what `c` has to write to `d`: the back of it comes before the front, which has this many octets at most.
+fn pass_reversed<R: Runtime + AllocGlobal>(
+    rt: &R,
+    c: &mut End,
+    d: &mut NumberedEnd,
+    most: usize,
+    wire: &mut Vec<u8>,
+) -> Result<()> {
+    wire.clear();
+    c.is_writable(rt, wire)?;
+    let middle = wire.len().min(most);
+    let (front, back) = wire.as_slice().split_at(middle);
+    d.back_came_first(rt, front, back)
+}
+
+// Carries what `d` has to write to `c`.
+fn answer<R: Runtime + AllocGlobal>(
+    rt: &R,
+    d: &mut NumberedEnd,
+    c: &mut End,
+    wire: &mut Vec<u8>,
+) -> Result<()> {
+    d.is_writable(rt, wire)?;
+    let mut rest = wire.as_slice();
+    for _ in 0..u64::MAX {
+        if rest.is_empty() {
+            break;
+        }
+        c.is_readable(rt, &mut rest)?;
+    }
+    Ok(())
+}
+
+// `c` opens a connection to `d`, and sends a message.
+fn talk_by_numbers<R: Runtime + AllocGlobal>(
+    rt: &R,
+    c: &mut End,
+    d: &mut NumberedEnd,
+) -> Result<()> {
+    let mut wire = Vec::new(rt.alloc());
+    d.post_recv(vec![in rt.alloc(); 0; 64]?)?;
+    pass_reversed(rt, c, d, 10, &mut wire)?;
+    answer(rt, d, c, &mut wire)?;
+    c.post(send(Bytes::copy_from_slice(rt.alloc(), TEXT)?, None))?;
+    pass_reversed(rt, c, d, 10, &mut wire)
+}
+
+fn run_in_order<R: Runtime + AllocGlobal>(rt: &R) -> Result<()> {
     let mut a = End::open(rt.alloc(), "a", Role::Initiator)?;
     let mut b = End::open(rt.alloc(), "b", Role::Responder)?;
     talk(rt, &mut a, &mut b)
+}
+
+fn run_out_of_order<R: Runtime + AllocGlobal>(rt: &R) -> Result<()> {
+    let mut c = End::open(rt.alloc(), "c", Role::Initiator)?;
+    let mut d = NumberedEnd::open(rt.alloc(), "d")?;
+    talk_by_numbers(rt, &mut c, &mut d)
+}
+
+fn run<R: Runtime + AllocGlobal>(rt: &R) -> Result<()> {
+    run_in_order(rt)?;
+    run_out_of_order(rt)
 }
 
 fn main(rt: HostRuntime) -> Result<()> {

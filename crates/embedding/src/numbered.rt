@@ -1,0 +1,150 @@
+//! One end of a connection by the endpoint's own calls: for a program that has the octets already, or gets them out of
+//! order, and hands them in with their sequence numbers.
+
+use crate::end::{STREAM, open_endpoint};
+use anyhow::{Result, bail};
+use iw_endpoint::{Emission, Endpoint, MAX_PLACE, Octets, PrivateData, Role, Step};
+use std::alloc::Global;
+use std::rt::Runtime;
+
+/// An endpoint with one stream, and the sequence number of the octet that comes next.
+#[derive(Drop)]
+pub(crate) struct NumberedEnd {
+    name: &'static str,
+    endpoint: Endpoint,
+    next: u32,
+}
+
+/// The sequence number after these octets, given that of the first. It wraps.
+fn number_after(number: u32, octets: &[u8]) -> u32 {
+    ((u64::from(number) + octets.len() as u64) % (1 << 32)) as u32
+}
+
+impl NumberedEnd {
+    /// An end with a domain and a stream in it, which waits for a peer.
+    pub(crate) fn open(alloc: Global, name: &'static str) -> Result<NumberedEnd> {
+        Ok(NumberedEnd {
+            name,
+            endpoint: open_endpoint(alloc, Role::Responder)?,
+            next: 0,
+        })
+    }
+
+    pub(crate) fn post_recv(&mut self, buffer: Vec<u8>) -> Result<()> {
+        match self.endpoint.post_recv(STREAM, buffer) {
+            Ok(()) => Ok(()),
+            Err((refusal, _)) => bail!("post_recv: {refusal:?}"),
+        }
+    }
+
+    /// Call it when octets came in order.
+    pub(crate) fn octets_came<R: Runtime + AllocGlobal>(
+        &mut self,
+        rt: &R,
+        octets: &[u8],
+    ) -> Result<()> {
+        if let Err(refusal) = self.endpoint.deliver(STREAM, self.next, octets) {
+            bail!("deliver: {refusal:?}");
+        }
+        self.next = number_after(self.next, octets);
+        self.work(rt)
+    }
+
+    /// Call it when octets came of which the back came before the front.
+    pub(crate) fn back_came_first<R: Runtime + AllocGlobal>(
+        &mut self,
+        rt: &R,
+        front: &[u8],
+        back: &[u8],
+    ) -> Result<()> {
+        let number = number_after(self.next, front);
+        if let Err(refusal) = self.endpoint.deliver(STREAM, number, back) {
+            bail!("deliver: {refusal:?}");
+        }
+        self.work(rt)?;
+        self.octets_came(rt, front)?;
+        self.next = number_after(self.next, back);
+        Ok(())
+    }
+
+    /// Fills `out` with all that is to be written.
+    pub(crate) fn is_writable<R: Runtime + AllocGlobal>(
+        &mut self,
+        rt: &R,
+        out: &mut Vec<u8>,
+    ) -> Result<()> {
+        out.clear();
+        for _ in 0..u64::MAX {
+            if !self.emit(out)? {
+                break;
+            }
+        }
+        self.work(rt)
+    }
+
+    // Appends what is to be written next. Returns whether there was anything to do.
+    fn emit(&mut self, out: &mut Vec<u8>) -> Result<bool> {
+        match self.endpoint.sent(STREAM) {
+            Ok(sent) if sent <= MAX_PLACE => {}
+            _ => bail!("too many octets were emitted"),
+        }
+        match self.endpoint.emit(STREAM, out) {
+            // After a fault the Terminate is due.
+            Ok(Emission::Frame { .. } | Emission::Fetched { .. } | Emission::Fault(_)) => Ok(true),
+            Ok(Emission::Nothing) => Ok(false),
+            Err(refusal) => bail!("emit: {refusal:?}"),
+        }
+    }
+
+    // Works until there is nothing to do.
+    fn work<R: Runtime + AllocGlobal>(&mut self, rt: &R) -> Result<()> {
+        for _ in 0..u64::MAX {
+            if !self.step(rt)? {
+                break;
+            }
+        }
+        Ok(())
+    }
+
+    // Does one step. Returns whether there was anything to do.
+    fn step<R: Runtime + AllocGlobal>(&mut self, rt: &R) -> Result<bool> {
+        match self.endpoint.in_order_point(STREAM) {
+            Ok(point) if point <= MAX_PLACE => {}
+            _ => bail!("too many octets came"),
+        }
+        match self.endpoint.work(STREAM) {
+            Ok(Step::Idle) => Ok(false),
+            Ok(step) => {
+                self.tell(rt, step)?;
+                Ok(true)
+            }
+            Err(refusal) => bail!("work: {refusal:?}"),
+        }
+    }
+
+    // Prints a step, and accepts the peer's Request.
+    fn tell<R: Runtime + AllocGlobal>(&mut self, rt: &R, step: Step<Octets>) -> Result<()> {
+        let name = self.name;
+        match step {
+            Step::Asked => {
+                println!(rt; "{name}: asked, and accepts")?;
+                self.accept()
+            }
+            Step::Received { len, .. } => {
+                println!(rt; "{name}: received a message of {len} octets")?;
+                Ok(())
+            }
+            step => {
+                println!(rt; "{name}: {step:?}")?;
+                Ok(())
+            }
+        }
+    }
+
+    fn accept(&mut self) -> Result<()> {
+        match self.endpoint.accept(STREAM, PrivateData::new()) {
+            Ok(_) => Ok(()),
+            Err(refusal) => bail!("accept: {refusal:?}"),
+        }
+    }
+}
