@@ -1,0 +1,106 @@
+//! Serves connections without end at one endpoint, in `crates/bench_many`. It prints what they hold and what each takes, and
+//! ends with status 1 where a limit is missed. Memory is counted as the allocator hands it out. Times are the processor's
+//! time of this thread, the least of several runs that go by turns.
+
+#[path = "../clock.rs"]
+mod clock;
+#[path = "../stream/heap.rs"]
+mod heap;
+
+use heap::most_held;
+
+const TURNS: usize = 7;
+
+/// How many connections there are at a time.
+const ALIVE: u32 = 1_000;
+
+/// What each Write carries.
+const WRITE: usize = 4_096;
+
+/// The octets of the four regions, which are not counted.
+const REGIONS: usize = 4 << 24;
+
+/// How much more may be held at the most by many connections than by the first thousand.
+const MAX_HELD: f64 = 1.05;
+
+/// How much longer the look-up of a stream may take beside 100,000 than alone.
+const MAX_LOOK: f64 = 1.1;
+
+/// How many octets each of 10,000 idle streams may hold.
+const MAX_IDLE: f64 = 2_700.0;
+
+const LOOK_UPS: u64 = 50_000_000;
+
+const IDLE: u32 = 10_000;
+
+unsafe extern "C" {
+    fn many_serve(connections: u32, alive: u32, octets: *const u8, n: usize) -> u32;
+    fn many_idle(streams: u32, shares: bool) -> u32;
+    fn many_none() -> bool;
+    fn many_look(streams: u32, rounds: u64) -> u64;
+}
+
+fn serve(connections: u32, alive: u32) {
+    let octets = [7; WRITE];
+    assert_eq!(unsafe { many_serve(connections, alive, octets.as_ptr(), octets.len()) }, connections);
+}
+
+fn idle(streams: u32, shares: bool) -> usize {
+    most_held(|| assert_eq!(unsafe { many_idle(streams, shares) }, streams))
+}
+
+fn look(streams: u32, rounds: u64) {
+    assert_eq!(unsafe { many_look(streams, rounds) }, rounds);
+}
+
+/// The time of a run, in microseconds.
+fn time(run: impl Fn()) -> f64 {
+    let before = clock::now();
+    run();
+    (clock::now() - before) / 1_000.0
+}
+
+/// What is wanted, and whether it is had.
+struct Wanted {
+    missed: usize,
+}
+
+impl Wanted {
+    fn at_most(&mut self, what: &str, value: f64, most: f64) {
+        let verdict = if value <= most { "reached" } else { "MISSED" };
+        self.missed += usize::from(value > most);
+        println!("{what}: {value:.3}, wanted at most {most}: {verdict}");
+    }
+}
+
+/// What is held at the most, and what a connection takes.
+fn judge_served(connections: u32, alive: u32, wanted: &mut Wanted) {
+    let mut took = 0.0;
+    let first = most_held(|| serve(ALIVE, alive)) - REGIONS;
+    let all = most_held(|| took = time(|| serve(connections, alive))) - REGIONS;
+    println!("{connections} connections, {alive} at a time: {:.1} microseconds each, {all} octets held", took / f64::from(connections));
+    wanted.at_most("held at the most, to the same of the first thousand", all as f64 / first as f64, MAX_HELD);
+}
+
+/// The least time of a look-up beside so many streams: with look-ups, less the same without.
+fn look_up(streams: u32, turns: usize) -> f64 {
+    let least = |rounds| (0..turns).map(|_| time(|| look(streams, rounds))).fold(f64::INFINITY, f64::min);
+    (least(LOOK_UPS) - least(0)) / LOOK_UPS as f64
+}
+
+fn main() {
+    let turns = std::env::args().nth(1).and_then(|word| word.parse().ok()).unwrap_or(TURNS);
+    let mut wanted = Wanted { missed: 0 };
+    judge_served(10_000, ALIVE, &mut wanted);
+    judge_served(100_000, 1, &mut wanted);
+    judge_served(1_000_000, 1, &mut wanted);
+    let (alone, beside) = (look_up(1, turns), look_up(100_000, turns));
+    println!("a look-up alone: {:.2} ns", alone * 1_000.0);
+    wanted.at_most("a look-up beside 100,000 streams, to one alone", beside / alone, MAX_LOOK);
+    println!("an endpoint with no domain: {} octets", most_held(|| assert!(unsafe { many_none() })));
+    println!("with a domain: {} octets", idle(0, false));
+    let a_stream = |shares| idle(IDLE, shares) as f64 / f64::from(IDLE);
+    wanted.at_most("octets of an idle stream, of 10,000", a_stream(false), MAX_IDLE);
+    println!("octets of one that shares a pool, of 10,000: {:.0}", a_stream(true));
+    std::process::exit((wanted.missed > 0).into());
+}

@@ -1,0 +1,36 @@
+//! Connections without end at one endpoint, for the driver in bench/many.
+#![tactic(auto)]
+
+mod client;
+mod server;
+
+use server::Server;
+use std::alloc::Global;
+
+/// Serves connections one after the other. Each is opened, takes a Write of these octets and a Send, and is ended and closed
+/// once `alive` more were opened. Returns how many were served; 0 if anything went wrong.
+#[unsafe(no_mangle)]
+pub extern "C" fn many_serve(alloc: Global, connections: u32, alive: u32, octets: &[u8]) -> u32 {
+    match server::serve(alloc, connections, alive, octets) {
+        Ok(()) => connections,
+        Err(_) => 0,
+    }
+}
+
+/// Opens streams in domain 1 of a new endpoint, and does nothing with them. Returns how many it opened.
+#[unsafe(no_mangle)]
+pub extern "C" fn many_idle(alloc: Global, streams: u32, shares: bool) -> u32 {
+    server::idle(alloc, streams, shares).unwrap_or(0)
+}
+
+/// Makes an endpoint with no domain. Returns whether it could.
+#[unsafe(no_mangle)]
+pub extern "C" fn many_none(alloc: Global) -> bool {
+    Server::new(alloc).is_ok()
+}
+
+/// Opens streams, and looks one and the same of them up again and again. Returns how often it was found.
+#[unsafe(no_mangle)]
+pub extern "C" fn many_look(alloc: Global, streams: u32, rounds: u64) -> u64 {
+    server::look(alloc, streams, rounds).unwrap_or(0)
+}
