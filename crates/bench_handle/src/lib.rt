@@ -4,7 +4,7 @@
 use iw_endpoint::{Config, Endpoint, Establishment, MAX_PLACE, PrivateData, Rights, Role, Step};
 use std::alloc::Global;
 
-const STREAM: u8 = 0;
+const STREAM: u32 = 0;
 
 const WRITES: Rights = Rights {
     write: true,

@@ -67,24 +67,14 @@ fn send_blocks<W: Write>(
     flush(endpoint, out, output)
 }
 
-// Reads until a message came. Returns the sequence number of the octet that comes next.
-fn hear<R: Read>(
-    endpoint: &mut Endpoint,
-    first: u32,
-    buffer: &mut [u8],
-    input: &mut R,
-) -> Result<u32> {
-    let mut next = first;
+// Reads until a message came.
+fn hear<R: Read>(endpoint: &mut Endpoint, input: &mut R) -> Result<()> {
     for _ in 0..u64::MAX {
-        let n = input.read(buffer)?;
-        ensure!(n > 0, "the other end is gone");
-        let came = end::take(endpoint, next, &buffer[..n])?;
-        next = end::number_after(next, &buffer[..n]);
-        if let Came::Message = came {
+        if let Came::Message = end::read(endpoint, input)? {
             break;
         }
     }
-    Ok(next)
+    Ok(())
 }
 
 fn copy_out<W: Write>(octets: &[u8], blocks: u32, output: &mut W) -> Result<()> {
@@ -107,23 +97,12 @@ fn copy_in<R: Read>(blocks: u32, buffer: &mut [u8], input: &mut R) -> Result<()>
     Ok(())
 }
 
-/// The end that sends, and the sequence number of the octet that comes next for it; `None` for a plain copy.
-#[derive(Drop)]
-pub(crate) struct SendingEnd {
-    endpoint: Option<Endpoint>,
-    next: u32,
-}
-
-/// The end that sends a load.
-pub(crate) fn sending_end(alloc: Global, load: &Load) -> Result<SendingEnd> {
-    let endpoint = match load.way {
-        Way::Copied => None,
-        Way::Written { mulpdu, is_framed } => Some(end::end(alloc, mulpdu, is_framed)?),
-    };
-    Ok(SendingEnd {
-        endpoint,
-        next: end::FIRST,
-    })
+/// The end that sends a load; `None` for a plain copy.
+pub(crate) fn sending_end(alloc: Global, load: &Load) -> Result<Option<Endpoint>> {
+    match load.way {
+        Way::Copied => Ok(None),
+        Way::Written { mulpdu, is_framed } => Ok(Some(end::end(alloc, mulpdu, is_framed)?)),
+    }
 }
 
 /// Sends the blocks of a round, and waits until the other end says that they came.
@@ -131,57 +110,40 @@ pub(crate) fn send<R: Read, W: Write>(
     alloc: Global,
     load: &Load,
     octets: &Bytes,
-    sender: &mut SendingEnd,
+    sender: &mut Option<Endpoint>,
     input: &mut R,
     output: &mut W,
 ) -> Result<()> {
-    let mut buffer = vec![in alloc; 0u8; BLOCK]?;
-    match &mut sender.endpoint {
-        None => send_copied(load.blocks, octets.as_slice(), &mut buffer, input, output),
-        Some(endpoint) => {
-            sender.next = send_written(
-                alloc,
-                load,
-                octets,
-                endpoint,
-                sender.next,
-                &mut buffer,
-                input,
-                output,
-            )?;
-            Ok(())
-        }
+    match sender {
+        None => send_copied(load.blocks, octets.as_slice(), input, output),
+        Some(endpoint) => send_written(alloc, load, octets, endpoint, input, output),
     }
 }
 
 fn send_copied<R: Read, W: Write>(
     blocks: u32,
     octets: &[u8],
-    buffer: &mut [u8],
     input: &mut R,
     output: &mut W,
 ) -> Result<()> {
     copy_out(octets, blocks, output)?;
-    ensure!(input.read(buffer)? == 1, "no answer");
+    let mut answer = [0u8; 16];
+    ensure!(input.read(&mut answer)? == 1, "no answer");
     Ok(())
 }
 
-// Returns the sequence number of the octet that comes next.
 fn send_written<R: Read, W: Write>(
     alloc: Global,
     load: &Load,
     octets: &Bytes,
     endpoint: &mut Endpoint,
-    next: u32,
-    buffer: &mut [u8],
     input: &mut R,
     output: &mut W,
-) -> Result<u32> {
+) -> Result<()> {
     let mut out = Vec::new(alloc);
     send_blocks(endpoint, octets, load.blocks, &mut out, output)?;
-    let next = hear(endpoint, next, buffer, input)?;
-    end::lend_buffer(alloc, endpoint)?;
-    Ok(next)
+    hear(endpoint, input)?;
+    end::lend_buffer(alloc, endpoint)
 }
 
 // Whether each block of the region that was written to is as it was sent.
@@ -200,19 +162,17 @@ fn clear(endpoint: &mut Endpoint, stag: Stag) {
     }
 }
 
-// Receives a round and answers it. Returns the sequence number of the octet that comes next.
+// Receives a round and answers it.
 fn serve_round<R: Read, W: Write>(
     alloc: Global,
     load: &Load,
     endpoint: &mut Endpoint,
     stag: Stag,
-    next: u32,
     octets: &[u8],
-    buffer: &mut [u8],
     input: &mut R,
     output: &mut W,
-) -> Result<u32> {
-    let next = hear(endpoint, next, buffer, input)?;
+) -> Result<()> {
+    hear(endpoint, input)?;
     ensure!(
         is_written(endpoint, stag, octets, load.blocks),
         "other octets were written"
@@ -221,8 +181,7 @@ fn serve_round<R: Read, W: Write>(
     end::lend_buffer(alloc, endpoint)?;
     post_end(endpoint)?;
     let mut out = Vec::new(alloc);
-    flush(endpoint, &mut out, output)?;
-    Ok(next)
+    flush(endpoint, &mut out, output)
 }
 
 fn serve<R: Read, W: Write>(
@@ -235,20 +194,8 @@ fn serve<R: Read, W: Write>(
 ) -> Result<()> {
     let length = (REGION_BLOCKS as usize).saturating_mul(BLOCK);
     let stag = end::lend_region(endpoint, vec![in alloc; 0u8; length]?)?;
-    let mut buffer = vec![in alloc; 0u8; BLOCK]?;
-    let mut next = end::FIRST;
     for _ in 0..load.rounds {
-        next = serve_round(
-            alloc,
-            load,
-            endpoint,
-            stag,
-            next,
-            octets,
-            &mut buffer,
-            input,
-            output,
-        )?;
+        serve_round(alloc, load, endpoint, stag, octets, input, output)?;
     }
     Ok(())
 }

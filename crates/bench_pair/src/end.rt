@@ -1,14 +1,13 @@
 use anyhow::{Result, bail};
-use iw_endpoint::{
-    Config, Emission, Endpoint, Establishment, MAX_PLACE, Octets, PrivateData, Rights, Role, Stag,
-    Step,
-};
+use iw_connection::{Endpoint, Filled, Intake, Octets, Step, StreamNumber, fill, next, take};
+use iw_endpoint::{Config, Establishment, PrivateData, Rights, Role, Stag};
 use std::alloc::Global;
 use std::fmt::Debug;
+use std::io::Read;
 
 pub(crate) const DOMAIN: u8 = 1;
 
-pub(crate) const STREAM: u8 = 0;
+pub(crate) const STREAM: StreamNumber = 0;
 
 /// The sequence number of an end's first octet. Numbers wrap within the first block.
 pub(crate) const FIRST: u32 = u32::MAX - 999;
@@ -72,31 +71,16 @@ pub(crate) fn lend_region(endpoint: &mut Endpoint, octets: Vec<u8>) -> Result<St
     }
 }
 
-// Appends the next frame. Returns whether one was due.
-fn emit(endpoint: &mut Endpoint, out: &mut Vec<u8>) -> Result<bool> {
-    match endpoint.sent(STREAM) {
-        Ok(sent) if sent <= MAX_PLACE => {}
-        _ => bail!("too many octets were emitted"),
-    }
-    match made("emit", endpoint.emit(STREAM, out))? {
-        Emission::Frame { .. } => Ok(true),
-        Emission::Nothing => Ok(false),
-        emission => bail!("emit: {emission:?}"),
-    }
-}
-
 /// Fills `out` with all that is due.
 pub(crate) fn gather(endpoint: &mut Endpoint, out: &mut Vec<u8>) -> Result<()> {
     out.clear();
-    for _ in 0..u64::MAX {
-        if !emit(endpoint, out)? {
-            break;
-        }
+    match made("fill", fill(endpoint, STREAM, out, usize::MAX))? {
+        Filled::All => Ok(()),
+        filled => bail!("fill: {filled:?}"),
     }
-    Ok(())
 }
 
-/// The outcome of steps of `work`.
+/// The outcome of steps that were done.
 #[derive(Clone, Copy)]
 pub(crate) enum Came {
     /// A message.
@@ -111,20 +95,16 @@ fn told(step: &Step<Octets>) -> Result<Option<Came>> {
     match step {
         Step::Idle => Ok(None),
         Step::Received { .. } => Ok(Some(Came::Message)),
-        Step::Fault(fault) => bail!("work: {fault:?}"),
+        Step::Fault(fault) => bail!("next: {fault:?}"),
         _ => Ok(Some(Came::Nothing)),
     }
 }
 
-// Does a step.
+// Works to the next step that has to be acted on.
 fn step(endpoint: &mut Endpoint) -> Result<Option<Came>> {
-    match endpoint.in_order_point(STREAM) {
-        Ok(point) if point <= MAX_PLACE => {}
-        _ => bail!("too many octets came"),
-    }
-    match endpoint.work(STREAM) {
+    match next(endpoint, STREAM) {
         Ok(step) => told(&step),
-        Err(missing) => bail!("work: {missing:?}"),
+        Err(refusal) => bail!("next: {refusal:?}"),
     }
 }
 
@@ -141,15 +121,10 @@ pub(crate) fn work(endpoint: &mut Endpoint) -> Result<Came> {
     Ok(came)
 }
 
-/// Delivers octets, the first of which has this sequence number, and works until there is nothing to do.
-pub(crate) fn take(endpoint: &mut Endpoint, number: u32, octets: &[u8]) -> Result<Came> {
-    if let Err(refusal) = endpoint.deliver(STREAM, number, octets) {
-        bail!("deliver: {refusal:?}");
+/// Reads once from the connection, and works until there is nothing to do.
+pub(crate) fn read<R: Read>(endpoint: &mut Endpoint, input: &mut R) -> Result<Came> {
+    match made("take", take(endpoint, STREAM, input))? {
+        Intake::Came(_) | Intake::Full => work(endpoint),
+        intake => bail!("take: {intake:?}"),
     }
-    work(endpoint)
-}
-
-/// The sequence number after these octets, given that of the first. It wraps.
-pub(crate) fn number_after(number: u32, octets: &[u8]) -> u32 {
-    ((u64::from(number) + octets.len() as u64) % (1 << 32)) as u32
 }

@@ -44,8 +44,8 @@ impl<'h> Ends<'h> {
 
     /// Drops what was emitted on a stream and had its turn at the other end. It cannot be delivered again.
     pub fn forget(&mut self, number: u8) {
-        self.a.forget(number, &self.b);
-        self.b.forget(number, &self.a);
+        self.a.forget(number.into(), &self.b);
+        self.b.forget(number.into(), &self.a);
     }
 }
 
@@ -96,13 +96,14 @@ fn act_at<'h>(
     stream: u8,
     call: &StreamCall<Bytes<Heap<'h>>>,
 ) -> Result<Act<Bytes<Heap<'h>>>, Stopped> {
-    if !end.has_stream(stream) {
+    let number = u32::from(stream);
+    if !end.has_stream(number) {
         return Err(Stopped::NoSuchStream);
     }
     let came: &[u8] = match call {
-        StreamCall::Deliver { from, len } => peer.emitted(stream, *from, *len)?,
+        StreamCall::Deliver { from, len } => peer.emitted(number, *from, *len)?,
         _ => &[],
     };
-    let act = end.call(meter, stream, call, came)?;
+    let act = end.call(meter, number, call, came)?;
     Ok(Act::Stream { stream, act })
 }

@@ -158,18 +158,9 @@ impl<'h> Meter<'h> {
             counts.0 = counts.0.saturating_add(1);
             counts.1 = counts.1.saturating_add(n);
         }
-        if is_ignored && !may_end(call) {
+        if is_ignored {
             return Err(Stopped::Ignored(call));
         }
         Ok(())
-    }
-}
-
-/// Whether the call may end a stream, which then gives memory back: that may ask for a smaller block, and if this is refused
-/// the block stays as it is.
-fn may_end(call: Call) -> bool {
-    match call {
-        Call::Emit | Call::Work | Call::Reject | Call::BreakLink => true,
-        _ => false,
     }
 }

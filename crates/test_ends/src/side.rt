@@ -80,12 +80,12 @@ impl<'h> Side<'h> {
         Ok(Side { endpoint, wires })
     }
 
-    pub(crate) fn has_stream(&self, number: u8) -> bool {
+    pub(crate) fn has_stream(&self, number: u32) -> bool {
         self.endpoint.sent(number).is_ok()
     }
 
     /// The octets that a stream emitted at a place.
-    pub(crate) fn emitted(&self, number: u8, from: u64, len: u64) -> Result<&[u8], Stopped> {
+    pub(crate) fn emitted(&self, number: u32, from: u64, len: u64) -> Result<&[u8], Stopped> {
         let Some(wire) = self.wires.get(number as usize) else {
             return Err(Stopped::NoSuchStream);
         };
@@ -93,7 +93,7 @@ impl<'h> Side<'h> {
     }
 
     /// What the other end emitted before this end's in-order point is not needed any more.
-    pub(crate) fn forget(&mut self, number: u8, peer: &Side<'h>) {
+    pub(crate) fn forget(&mut self, number: u32, peer: &Side<'h>) {
         if let (Ok(point), Some(wire)) = (
             peer.endpoint.in_order_point(number),
             self.wires.get_mut(number as usize),
@@ -203,7 +203,7 @@ impl<'h> Side<'h> {
         for n in 0..MOST_TRIES {
             let config = config_for(options, private.as_slice());
             meter.begin(n);
-            let opened = self.endpoint.open(stream, pd, role, config);
+            let opened = self.endpoint.open(stream.into(), pd, role, config);
             if opened == Err(OpenRefusal::NoMemory) {
                 continue;
             }
@@ -279,7 +279,7 @@ impl<'h> Side<'h> {
         for n in 0..MOST_TRIES {
             let config = config_for(options, private.as_slice());
             meter.begin(n);
-            let opened = self.endpoint.open_shared(stream, pd, role, config);
+            let opened = self.endpoint.open_shared(stream.into(), pd, role, config);
             if opened == Err(OpenSharedRefusal::NoMemory) {
                 continue;
             }
@@ -300,7 +300,7 @@ impl<'h> Side<'h> {
     pub(crate) fn call(
         &mut self,
         meter: &mut Meter<'h>,
-        number: u8,
+        number: u32,
         call: &StreamCall<Bytes<Heap<'h>>>,
         came: &[u8],
     ) -> StreamAnswer<'h> {
@@ -326,7 +326,7 @@ impl<'h> Side<'h> {
         }
     }
 
-    fn recv(&mut self, meter: &mut Meter<'h>, number: u8, len: u32) -> StreamAnswer<'h> {
+    fn recv(&mut self, meter: &mut Meter<'h>, number: u32, len: u32) -> StreamAnswer<'h> {
         let mut buffer = vec![in meter.heap(); 0; len as usize]?;
         for n in 0..MOST_TRIES {
             meter.begin(n);
@@ -348,7 +348,7 @@ impl<'h> Side<'h> {
     fn post(
         &mut self,
         meter: &mut Meter<'h>,
-        number: u8,
+        number: u32,
         message: &Request<Bytes<Heap<'h>>>,
     ) -> StreamAnswer<'h> {
         let call = Call::posting(message);
@@ -373,7 +373,7 @@ impl<'h> Side<'h> {
         Err(Stopped::Endless(call))
     }
 
-    fn first(&mut self, meter: &mut Meter<'h>, number: u8, first: u32) -> StreamAnswer<'h> {
+    fn first(&mut self, meter: &mut Meter<'h>, number: u32, first: u32) -> StreamAnswer<'h> {
         meter.begin(0);
         let answer = self.endpoint.first_number(number, first);
         meter.end(Call::FirstNumber, 0)?;
@@ -394,7 +394,7 @@ impl<'h> Side<'h> {
     fn deliver_emitted(
         &mut self,
         meter: &mut Meter<'h>,
-        number: u8,
+        number: u32,
         from: u64,
         came: &[u8],
     ) -> StreamAnswer<'h> {
@@ -413,7 +413,7 @@ impl<'h> Side<'h> {
     fn deliver(
         &mut self,
         meter: &mut Meter<'h>,
-        number: u8,
+        number: u32,
         from: u32,
         octets: &[u8],
     ) -> Result<Delivery, Stopped> {
@@ -432,7 +432,7 @@ impl<'h> Side<'h> {
     }
 
     // Emits what is due, after what was emitted.
-    fn emission(&mut self, meter: &mut Meter<'h>, number: u8) -> Result<Emission, Stopped> {
+    fn emission(&mut self, meter: &mut Meter<'h>, number: u32) -> Result<Emission, Stopped> {
         let Some(wire) = self.wires.get_mut(number as usize) else {
             return Err(Stopped::NoSuchStream);
         };
@@ -457,7 +457,7 @@ impl<'h> Side<'h> {
     fn emit(
         &mut self,
         meter: &mut Meter<'h>,
-        number: u8,
+        number: u32,
     ) -> Result<Shown<Bytes<Heap<'h>>>, Stopped> {
         let emission = self.emission(meter, number)?;
         match emission {
@@ -486,7 +486,7 @@ impl<'h> Side<'h> {
     fn frame(
         &self,
         meter: &Meter<'h>,
-        number: u8,
+        number: u32,
         from: u64,
         len: usize,
     ) -> Result<Bytes<Heap<'h>>, Stopped> {
@@ -494,7 +494,7 @@ impl<'h> Side<'h> {
         Ok(Bytes::copy_from_slice(meter.heap(), octets)?)
     }
 
-    fn mulpdu(&mut self, meter: &mut Meter<'h>, number: u8, size: u32) -> StreamAnswer<'h> {
+    fn mulpdu(&mut self, meter: &mut Meter<'h>, number: u32, size: u32) -> StreamAnswer<'h> {
         meter.begin(0);
         let answer = self.endpoint.set_mulpdu(number, size);
         meter.end(Call::SetMulpdu, 0)?;
@@ -514,7 +514,7 @@ impl<'h> Side<'h> {
     fn accept(
         &mut self,
         meter: &mut Meter<'h>,
-        number: u8,
+        number: u32,
         private: &Bytes<Heap<'h>>,
     ) -> StreamAnswer<'h> {
         let copy = private.clone()?;
@@ -537,7 +537,7 @@ impl<'h> Side<'h> {
     fn reject(
         &mut self,
         meter: &mut Meter<'h>,
-        number: u8,
+        number: u32,
         private: &Bytes<Heap<'h>>,
     ) -> StreamAnswer<'h> {
         let copy = private.clone()?;
@@ -561,7 +561,7 @@ impl<'h> Side<'h> {
     fn work(
         &mut self,
         meter: &mut Meter<'h>,
-        number: u8,
+        number: u32,
     ) -> Result<Step<Octets<Heap<'h>>>, Stopped> {
         for n in 0..MOST_TRIES {
             match self.endpoint.in_order_point(number) {
@@ -582,7 +582,7 @@ impl<'h> Side<'h> {
     }
 
     // The private data of the peer's start-up frame.
-    fn private(&self, meter: &mut Meter<'h>, number: u8) -> Result<Bytes<Heap<'h>>, Stopped> {
+    fn private(&self, meter: &mut Meter<'h>, number: u32) -> Result<Bytes<Heap<'h>>, Stopped> {
         meter.begin(0);
         let private = self.endpoint.private(number);
         meter.end(Call::Private, 0)?;
@@ -608,13 +608,13 @@ impl<'h> Side<'h> {
         }
     }
 
-    fn see_asked(&self, meter: &mut Meter<'h>, number: u8) -> SeenStep<'h> {
+    fn see_asked(&self, meter: &mut Meter<'h>, number: u32) -> SeenStep<'h> {
         let private = self.private(meter, number)?;
         let told = there(self.endpoint.told(number))?;
         Ok(Seen::Asked { told, private })
     }
 
-    fn see_opened(&self, meter: &mut Meter<'h>, number: u8, agreed: Agreed) -> SeenStep<'h> {
+    fn see_opened(&self, meter: &mut Meter<'h>, number: u32, agreed: Agreed) -> SeenStep<'h> {
         let private = self.private(meter, number)?;
         let told = there(self.endpoint.told(number))?;
         Ok(Seen::Opened {
@@ -642,7 +642,7 @@ impl<'h> Side<'h> {
     }
 
     // Does one step, and returns what the trace shows of it.
-    fn see(&mut self, meter: &mut Meter<'h>, number: u8) -> SeenStep<'h> {
+    fn see(&mut self, meter: &mut Meter<'h>, number: u32) -> SeenStep<'h> {
         match self.work(meter, number)? {
             Step::Done(kind) => Ok(Seen::Done(kind)),
             Step::Flushed(kind) => Ok(Seen::Flushed(kind)),
@@ -672,7 +672,7 @@ impl<'h> Side<'h> {
         }
     }
 
-    fn break_link(&mut self, meter: &mut Meter<'h>, number: u8) -> StreamAnswer<'h> {
+    fn break_link(&mut self, meter: &mut Meter<'h>, number: u32) -> StreamAnswer<'h> {
         meter.begin(0);
         let answer = self.endpoint.break_link(number);
         meter.end(Call::BreakLink, 0)?;

@@ -44,7 +44,7 @@ fn reading(size: u32, sink_to: u64, source: u32, source_to: u64) -> ReadRequest 
 fn outstanding(alloc: Global) -> Result<Reads, Fail> {
     let mut reads = Reads::new(alloc);
     if !reads.is_full() {
-        reads.add(7, reading(4, u64::MAX - 1, SOURCE, 0))?;
+        reads.add(Some(7), reading(4, u64::MAX - 1, SOURCE, 0))?;
     }
     Ok(reads)
 }

@@ -32,7 +32,7 @@ enum Ending {
 }
 
 /// The schedules, by the names of their files, `NAME.schedule`. The trace of one that has a trace is in `NAME.trace`.
-const ROWS: [(&str, Ending); 94] = [
+const ROWS: [(&str, Ending); 95] = [
     ("first", Ending::Completed),
     ("one-write", Ending::Completed),
     ("empty-messages", Ending::Completed),
@@ -64,6 +64,7 @@ const ROWS: [(&str, Ending); 94] = [
     ("an-enhanced-start-up-cut-at-each-octet", Ending::Completed),
     ("hostile-enhanced-start-up", Ending::Faulted),
     ("an-ord-of-one", Ending::Completed),
+    ("peer-to-peer", Ending::Completed),
     ("many-segments", Ending::Completed),
     ("a-frame-placed-before-its-turn", Ending::Completed),
     ("a-placed-frame-is-not-checked-again", Ending::Faulted),
@@ -148,7 +149,7 @@ enum Difference {
     Line(usize),
     /// It ended in another way.
     Ended(Result<Status, ReplayFault>),
-    /// A replay that was refused memory neither ended out of memory nor wrote the trace.
+    /// A replay that was refused memory did not end out of memory, or wrote something.
     Refused,
     /// The trace differs if calls that were refused memory are made again.
     MadeAgain,
@@ -226,7 +227,7 @@ fn compare_refused<R: Runtime + AllocGlobal>(
     trace: &[u8],
     counts: &mut Counts,
 ) -> anyhow::Result<Option<Difference>> {
-    let Some(requests) = each_refused(rt.alloc(), schedule, trace)? else {
+    let Some(requests) = each_refused(rt.alloc(), schedule)? else {
         return Ok(Some(Difference::Refused));
     };
     eprintln!(rt; "{name}: requests for memory 1 to {requests}")?;

@@ -11,14 +11,9 @@ use test_support::FailsAt;
 /// The most requests for memory of one replay.
 const MOST_REQUESTS: u64 = 1_000_000;
 
-// Whether the replay ends out of memory, and writes nothing, if its request after the next `n` is refused; or, as a request
-// for a smaller block may be refused without harm, whether it then writes the trace. `None` if there is no such request.
-fn is_refused(
-    alloc: Global,
-    schedule: &[u8],
-    trace: &[u8],
-    n: u64,
-) -> Result<Option<bool>, AllocError> {
+// Whether the replay ends out of memory, and writes nothing, if its request after the next `n` is refused; `None` if
+// there is no such request.
+fn is_refused(alloc: Global, schedule: &[u8], n: u64) -> Result<Option<bool>, AllocError> {
     let heap = FailsAt::new(alloc, n);
     let mut written = Vec::new(alloc);
     let mut input = schedule;
@@ -27,20 +22,16 @@ fn is_refused(
         return Ok(None);
     }
     Ok(Some(match ended {
-        Ok(_) => written.as_slice() == trace,
+        Ok(_) => false,
         Err(fault) => written.is_empty() && fault.to_string(alloc)?.as_str() == "no memory",
     }))
 }
 
 /// Replays a schedule with its first request for memory refused, then with only the second refused, and so on to the
-/// last. Returns how many there were; `None` if one of these replays neither ended out of memory nor wrote the trace.
-pub(crate) fn each_refused(
-    alloc: Global,
-    schedule: &[u8],
-    trace: &[u8],
-) -> Result<Option<u64>, AllocError> {
+/// last. Returns how many there were; `None` if one of these replays did not end out of memory.
+pub(crate) fn each_refused(alloc: Global, schedule: &[u8]) -> Result<Option<u64>, AllocError> {
     for n in 0..MOST_REQUESTS {
-        match is_refused(alloc, schedule, trace, n)? {
+        match is_refused(alloc, schedule, n)? {
             None => return Ok(Some(n)),
             Some(true) => {}
             Some(false) => return Ok(None),

@@ -1,0 +1,182 @@
+//! One end of a connection, with the loop of docs/EMBEDDING.md.
+
+use bytes::Bytes;
+use iw_connection::{
+    Endpoint, Filled, Intake, Octets, Step, StreamNumber, close, fill, next, take,
+};
+use iw_endpoint::{
+    Config, Establishment, Message, PrivateData, ReadRequest, Request, Rights, Role, Stag,
+};
+use std::alloc::Global;
+use std::io::Read;
+use std::test::Fail;
+
+const DOMAIN: u8 = 1;
+
+const STREAM: StreamNumber = 0;
+
+/// What the program has seen of its stream.
+#[derive(Clone, Copy, Debug, PartialEq, Eq)]
+pub(crate) struct Seen {
+    pub(crate) is_open: bool,
+    pub(crate) received: u32,
+    pub(crate) done: u32,
+    pub(crate) flushed: u32,
+    pub(crate) has_ended: bool,
+}
+
+#[derive(Drop)]
+pub(crate) struct End {
+    pub(crate) endpoint: Endpoint,
+    pub(crate) seen: Seen,
+}
+
+impl End {
+    /// An end with a domain, a stream in it, and a buffer for a message.
+    pub(crate) fn open(alloc: Global, role: Role) -> Result<End, Fail> {
+        let mut end = End {
+            endpoint: Endpoint::new(alloc)?,
+            seen: Seen {
+                is_open: role == Role::Preset,
+                received: 0,
+                done: 0,
+                flushed: 0,
+                has_ended: false,
+            },
+        };
+        end.set_up(alloc, role)?;
+        Ok(end)
+    }
+
+    fn set_up(&mut self, alloc: Global, role: Role) -> Result<(), Fail> {
+        let config = Config {
+            markers: true,
+            crc: true,
+            establishment: Establishment::Plain,
+            private: PrivateData::new(),
+        };
+        self.endpoint.add_domain(DOMAIN)?;
+        self.endpoint.open(STREAM, DOMAIN, role, config)?;
+        self.endpoint.post_recv(STREAM, vec![in alloc; 0u8; 16]?)?;
+        Ok(())
+    }
+
+    /// The longest frames that there can be.
+    pub(crate) fn with_long_frames(&mut self) -> Result<(), Fail> {
+        self.endpoint.set_mulpdu(STREAM, 64_512)?;
+        Ok(())
+    }
+
+    /// Registers octets that the peer may write and read, and into which this end may read.
+    pub(crate) fn register(&mut self, octets: Vec<u8>) -> Result<Stag, Fail> {
+        let rights = Rights {
+            write: true,
+            read: true,
+            sink: true,
+            invalidate: false,
+        };
+        Ok(self.endpoint.register(DOMAIN, 0, octets, rights)?)
+    }
+
+    pub(crate) fn write(&mut self, stag: Stag, octets: Bytes) -> Result<(), Fail> {
+        let write = Message::Write {
+            stag,
+            to: 0,
+            octets,
+        };
+        self.endpoint.post(STREAM, Request::Message(write))?;
+        Ok(())
+    }
+
+    /// Posts a Send without octets.
+    pub(crate) fn send(&mut self) -> Result<(), Fail> {
+        let send = Message::Send {
+            octets: Bytes::new(),
+            solicited: false,
+            invalidate: None,
+        };
+        self.endpoint.post(STREAM, Request::Message(send))?;
+        Ok(())
+    }
+
+    pub(crate) fn read(&mut self, sink: Stag, source: Stag, size: u32) -> Result<(), Fail> {
+        let read = ReadRequest {
+            sink,
+            sink_to: 0,
+            size,
+            source,
+            source_to: 0,
+        };
+        self.endpoint.post(STREAM, Request::Read(read))?;
+        Ok(())
+    }
+
+    /// Whether a region has these octets.
+    pub(crate) fn has(&self, stag: Stag, octets: &[u8]) -> bool {
+        self.endpoint.local(stag) == Some(octets)
+    }
+
+    /// The socket is readable.
+    pub(crate) fn is_readable<S: Read>(&mut self, socket: &mut S) -> Result<Intake, Fail> {
+        let intake = take(&mut self.endpoint, STREAM, socket)?;
+        self.act()?;
+        Ok(intake)
+    }
+
+    /// The socket is writable: appends what is to be written, about `most` octets. Returns whether more may be due.
+    pub(crate) fn is_writable(&mut self, out: &mut Vec<u8>, most: usize) -> Result<bool, Fail> {
+        let filled = fill(&mut self.endpoint, STREAM, out, most)?;
+        self.act()?;
+        Ok(filled != Filled::All)
+    }
+
+    /// The connection closed.
+    pub(crate) fn closed(&mut self) -> Result<(), Fail> {
+        close(&mut self.endpoint, STREAM)?;
+        self.act()
+    }
+
+    fn act(&mut self) -> Result<(), Fail> {
+        for _ in 0..u64::MAX {
+            match next(&mut self.endpoint, STREAM)? {
+                Step::Idle => break,
+                step => self.act_on(step)?,
+            }
+        }
+        Ok(())
+    }
+
+    fn act_on(&mut self, step: Step<Octets>) -> Result<(), Fail> {
+        let seen = &mut self.seen;
+        match step {
+            Step::Asked => self.accept(),
+            Step::Opened(_) => {
+                seen.is_open = true;
+                Ok(())
+            }
+            Step::Received { buffer, .. } => {
+                seen.received = seen.received.saturating_add(1);
+                self.endpoint.post_recv(STREAM, buffer.into_vec())?;
+                Ok(())
+            }
+            Step::Done(_) => {
+                seen.done = seen.done.saturating_add(1);
+                Ok(())
+            }
+            Step::Flushed(_) | Step::FlushedRecv(_) => {
+                seen.flushed = seen.flushed.saturating_add(1);
+                Ok(())
+            }
+            _ => {
+                seen.has_ended = true;
+                Ok(())
+            }
+        }
+    }
+
+    fn accept(&mut self) -> Result<(), Fail> {
+        self.endpoint.accept(STREAM, PrivateData::new())?;
+        self.seen.is_open = true;
+        Ok(())
+    }
+}
