@@ -23,6 +23,9 @@ pub record IsEmpty (f : Fields) : Type 0 where
 in_before : (place p : ℕ) → in_spans p (before place) ≡ true → p < place
 in_before place p t = grind (arith, nat_tests, t)
 
+last_before : (place : ℕ) → 0 < place → in_spans (place - 1) (before place) ≡ true
+last_before place some = grind (arith, nat_tests, some)
+
 pub sound_empty : (f : Fields) → f.floor ≤ 2 ^ 63 → IsEmpty f → IsSound f
 sound_empty f low is = record {
   base = omega (arith, is.base);
@@ -30,6 +33,7 @@ sound_empty f low is = record {
   missing = is.missing ∙ sym (ap first_end is.spans);
   reached = omega (arith, ap first_end is.spans);
   within = λ p t. omega (arith, is.end, in_before f.floor p (sym (ap (in_spans p) is.spans) ∙ t));
+  top = λ more. ap (λ e. in_spans (e - 1) f.spans) is.end ∙ ap (in_spans (f.floor - 1)) is.spans ∙ last_before f.floor (omega (arith, more, is.end));
   windowed = omega (arith, is.end);
   stand = omega (arith, is.end, is.base);
   held = omega (arith, ap length is.octets);

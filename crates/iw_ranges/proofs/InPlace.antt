@@ -8,9 +8,9 @@ use Rattle.std.proofs.lemmas.Bool.Decides.{nat_tests}
 use Rattle.std.specs.Prelude.{nat_lt}
 use Rattle.iw_ranges.specs.declared.spans.Span.{Span}
 use Rattle.iw_ranges.specs.Spans.{in_spans, first_end, add_span, octet_after, HasSameOctets}
-use Rattle.iw_ranges.specs.Arrived.{Here, Arrived, Held, window, max_idle, max_held, end_of, HasNoGap, most_ahead, IsReadyFor}
+use Rattle.iw_ranges.specs.Arrived.{Here, Arrived, Held, window, max_idle, max_held, end_of, most_ahead, IsReadyFor}
 use Rattle.iw_ranges.specs.Fields.{Fields, cell_of, arrived_in, IsSound}
-use Rattle.iw_ranges.proofs.Cells.{cell_missing, cell_gone, cell_here, come_via, come_reaches, first_covers, top_reaches, end_is, same_drawn}
+use Rattle.iw_ranges.proofs.Cells.{cell_missing, cell_gone, cell_here, top_reaches, end_is, same_drawn}
 use Rattle.iw_ranges.proofs.Fills.{in_octets, before_octets, past_octets, in_the_spans}
 use Rattle.iw_ranges.proofs.Keeps.{PutsIn}
 use Rattle.iw_ranges.proofs.Moves.{shorter}
@@ -32,6 +32,7 @@ sound_kept f ok octets base high stand held = record {
   missing = ok.missing;
   reached = ok.reached;
   within = ok.within;
+  top = ok.top;
   windowed = ok.windowed;
   stand = stand;
   held = held;
@@ -47,14 +48,6 @@ reaches_floor f ok = omega (arith, ok.reached, top_reaches f ok)
 
 pub end_via : (f : Fields) → IsSound f → (a : Arrived) → arrived_in f ≡ a → end_of a ≡ f.end
 end_via f ok a e = ap end_of (sym e) ∙ end_is f ok
-
-pub no_gap : (f : Fields) → IsSound f → (a : Arrived) → arrived_in f ≡ a → f.missing ≡ f.end → HasNoGap a
-no_gap f ok a e whole = λ p low. come_via f ok a e p ∙ first_covers f.spans p ok.order (omega (arith, low, end_via f ok a e, whole, ok.missing))
-
-pub no_gap_is : (f : Fields) → IsSound f → (a : Arrived) → arrived_in f ≡ a → HasNoGap a → f.missing ≡ f.end
-no_gap_is f ok a e order =
-    let all : f.end ≤ first_end f.spans = come_reaches f.spans f.end ok.order (λ p low. sym (come_via f ok a e p) ∙ order p (omega (arith, low, end_via f ok a e))) in
-    omega (arith, top_reaches f ok, ok.missing, all)
 
 cells_via : (f : Fields) (a : Arrived) → arrived_in f ≡ a → length a.cells ≡ f.end - f.floor
 cells_via f a e = ap (λ (x : Arrived). length x.cells) (sym e) ∙ length-map-range_with_len (cell_of f) f.floor (f.end - f.floor)
@@ -82,9 +75,8 @@ most_near f ok a e n few =
 pub most_idle : (f : Fields) (a : Arrived) → arrived_in f ≡ a → (n : ℕ) → n ≤ most_ahead a → f.floor ≡ f.end → n ≤ max_idle
 most_idle f a e n few idle = omega (arith, few, most_none f a e (omega (arith, idle)))
 
-pub ready_for : (f : Fields) → IsSound f → (h : Held) → arrived_in f ≡ h.arrived → (n : ℕ) → f.missing ≡ f.end → f.end + n ≤ f.floor + window → n ≤ length h.ahead → IsReadyFor n h
-ready_for f ok h e n whole near stand = record {
-  order = no_gap f ok h.arrived e whole;
+pub ready_for : (f : Fields) → IsSound f → (h : Held) → arrived_in f ≡ h.arrived → (n : ℕ) → f.end + n ≤ f.floor + window → n ≤ length h.ahead → IsReadyFor n h
+ready_for f ok h e n near stand = record {
   near = omega (arith, near, end_via f ok h.arrived e, ap (λ (a : Arrived). a.floor) e);
   stand = stand;
 }
@@ -174,8 +166,8 @@ stands base ss from n octets i low enough =
         ∙ get_or-drop (from - base) octets (base + i - from) 0
         ∙ ap (λ k. get_or octets k 0) (omega (arith, low, past)))
 
-abbrev pub counted : Fields → List Span → ℕ → Fields
-counted f spans to = record { base = f.base; floor = f.floor; missing = to; end = to; octets = f.octets; spans = spans; gone = f.gone }
+abbrev pub counted : Fields → List Span → ℕ → ℕ → Fields
+counted f spans missing to = record { base = f.base; floor = f.floor; missing = missing; end = to; octets = f.octets; spans = spans; gone = f.gone }
 
 abbrev pub part_of : Fields → ℕ → ℕ → List ℕ
 part_of f place n = take n (drop (place - f.base) f.octets)
@@ -183,20 +175,19 @@ part_of f place n = take n (drop (place - f.base) f.octets)
 pub part_len : (f : Fields) (place n : ℕ) → n ≤ length f.octets - (place - f.base) → length (part_of f place n) ≡ n
 part_len f place n enough = length-take-le n (drop (place - f.base) f.octets) (omega (arith, enough, length-drop (place - f.base) f.octets))
 
-pub counts : (f : Fields) → IsSound f → (spans : List Span) (place n : ℕ) → place ≡ f.missing → place ≡ f.end → n ≤ length f.octets - (place - f.base)
-    → spans ≡ add_span (first_end f.spans) (place + n) f.spans → first_end spans ≡ place + n
-    → PutsIn f (counted f spans (place + n)) place (place + length (part_of f place n)) (part_of f place n)
-counts f ok spans place n first last enough added end =
+pub counts : (f : Fields) → IsSound f → (spans : List Span) (place n missing : ℕ) → place ≡ f.end → n ≤ length f.octets - (place - f.base)
+    → spans ≡ add_span place (place + n) f.spans → missing ≡ first_end spans
+    → PutsIn f (counted f spans missing (place + n)) place (place + length (part_of f place n)) (part_of f place n)
+counts f ok spans place n missing last enough added first =
     let len : length (part_of f place n) ≡ n = part_len f place n enough in
-    let from : first_end f.spans ≡ place = omega (arith, first, ok.missing) in
     record {
       base = refl;
       floor = refl;
-      missing = sym end;
+      missing = first;
       gone = refl;
-      spans = added ∙ ap (λ m. add_span m (place + n) f.spans) from ∙ ap (λ m. add_span place (place + m) f.spans) (sym len);
+      spans = added ∙ ap (λ m. add_span place (place + m) f.spans) (sym len);
       end = refl;
       last = omega (arith, last, len);
       len = omega (arith, len, enough, last, ok.stand);
-      written = λ i. stands f.base f.spans place n f.octets i (omega (arith, ok.base, ok.reached, ok.missing, first)) enough;
+      written = λ i. stands f.base f.spans place n f.octets i (omega (arith, ok.base, reaches_floor f ok, last)) enough;
     }

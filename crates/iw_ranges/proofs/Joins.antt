@@ -1,11 +1,11 @@
 -- Spans and the places that are added to them.
-use Rattle.std.proofs.Common.{◌≡◌, ℕ, ◌+◌, ◌<◌, ◌≤◌, zero, suc, List, [], ◌∷◌, ◌++◌, take, drop, length, get_or, min, max, Bool, true, false, ◌||◌, refl, sym, ap, ◌∙◌, subst, arith, add-one, inl, inr, length-append, length-drop}
+use Rattle.std.proofs.Common.{◌≡◌, ℕ, ◌+◌, ◌-◌, ◌<◌, ◌≤◌, zero, suc, List, [], ◌∷◌, ◌++◌, take, drop, length, get_or, min, max, Bool, true, false, ◌||◌, refl, sym, ap, ◌∙◌, subst, arith, add-one, inl, inr, length-append, length-drop}
 use Rattle.std.proofs.lemmas.List.{drop_more, take-append-drop, take-append-le, take-take, take-set, drop-set, drop_at, length-take-le, drop_all}
 use Rattle.std.proofs.lemmas.Bool.{cases_lt}
 use Rattle.std.proofs.lemmas.Bool.Decides.{nat_tests}
 use Rattle.std.proofs.Math.ListN.{set}
 use Rattle.std.specs.Bool.{OnTrue}
-use Rattle.std.specs.Prelude.{insert, remove, nat_lt, nat_eq, MatchBool}
+use Rattle.std.specs.Prelude.{insert, remove, nat_lt, nat_eq, MatchBool, ◌⊎◌}
 use Rattle.iw_ranges.specs.declared.spans.Span.{Span}
 use Rattle.iw_ranges.specs.Spans.{add_span, merge_span, spans_past, in_span, in_spans, IsApart, IsFirstReaching, IsFromStart, first_end}
 use Rattle.iw_ranges.proofs.Reaches.{AllBefore, below_apart}
@@ -241,3 +241,72 @@ pub few_more : (from to : ℕ) (ss : List Span) (m : ℕ) → m ≡ length ss �
 few_more from to ss m e few =
     let t : nat_lt 1024 m ≡ false = grind (arith, nat_tests) in
     subst (λ b. MatchBool b (1025 < length (add_span from to ss)) (length (add_span from to ss) ≤ 1025)) (sym t) (omega (arith, length_add from to ss))
+
+-- ---- the last span is made longer
+-- spans in order, of which the first may be empty if it begins at place 0
+abbrev Begins : Span → Type 0
+Begins s = (s.from ≡ 0) ⊎ (s.from < s.to)
+
+abbrev AreLined : List Span → Type 0
+AreLined [] = Unit {0}
+AreLined (s ∷ ss) = Begins s × IsApart s.to ss
+
+alone : (s : Span) (p : ℕ) → s.from ≤ p → p < s.to → in_spans p (s ∷ []) ≡ true
+alone s p low high = grind (arith, nat_tests, low, high)
+
+one_most : (s : Span) (from : ℕ) → Begins s → ((p : ℕ) → in_spans p (s ∷ []) ≡ true → p < from) → s.to ≤ from
+one_most s from begins within = go s.to refl
+  where
+    go : (e : ℕ) → e ≡ s.to → s.to ≤ from
+    go zero h = omega (arith, h)
+    go (suc e) h =
+        let low : s.from ≤ e = elim begins [ inl zero_is ↦ omega (arith, zero_is) | inr some ↦ omega (arith, some, h) ] in
+        omega (arith, h, within e (alone s e low (omega (arith, h))))
+
+one_end : (s : Span) (from : ℕ) → Begins s → ((p : ℕ) → in_spans p (s ∷ []) ≡ true → p < from) → (0 < from → in_spans (from - 1) (s ∷ []) ≡ true) → s.to ≡ from
+one_end s from begins within top =
+    let most : s.to ≤ from = one_most s from begins within in
+    elim (cases_lt 0 from) [
+      | inl some ↦
+          let t : in_spans (from - 1) (s ∷ []) ≡ true = top some in
+          let inside : from - 1 < s.to = grind (arith, nat_tests, t) in
+          omega (arith, most, inside, some)
+      | inr none ↦ omega (arith, most, none)
+    ]
+
+lined_longer : (ss : List Span) (from to i : ℕ) (last : Span) → AreLined ss → i + 1 ≡ length ss → last ≡ get_or ss i last → ((p : ℕ) → in_spans p ss ≡ true → p < from)
+    → (0 < from → in_spans (from - 1) ss ≡ true) → from < to → set ss i (record { from = last.from; to = to }) ≡ add_span from to ss
+lined_longer [] from to i last order size is within top further = absurd (omega (arith, size))
+lined_longer (s ∷ []) from to (suc i) last order size is within top further = absurd (omega (arith, size))
+lined_longer (s ∷ (t ∷ ts)) from to zero last order size is within top further = absurd (omega (arith, size))
+lined_longer (s ∷ []) from to zero last order size is within top further =
+    let ends : s.to ≡ from = one_end s from order.0 within top in
+    let low : s.from ≤ from = elim order.0 [ inl zero_is ↦ omega (arith, zero_is) | inr some ↦ omega (arith, some, ends) ] in
+    let high : to ≡ max to s.to = omega (arith, further, ends) in
+    let least : last.from ≡ min from s.from = omega (arith, low, ap (λ (x : Span). x.from) is) in
+    let one : ℕ → ℕ → List Span = λ a b. record { from = a; to = b } ∷ [] in
+    ap (λ a. one a to) least ∙ ap (one (min from s.from)) high ∙ sym (merge_at_end (min from s.from) (max to s.to))
+    ∙ sym (merge_one from to s [] (omega (arith, low, further))) ∙ sym (merge_here from to s [] (omega (arith, ends)))
+lined_longer (s ∷ (t ∷ ts)) from to (suc i) last order size is within top further =
+    let some : t.from < t.to = order.1.1 in
+    let gap : s.to < t.from = order.1.0 in
+    let here : in_spans t.from (s ∷ (t ∷ ts)) ≡ true = grind (arith, nat_tests, some) in
+    let past : t.from < from = within t.from here in
+    let out : in_span (from - 1) s ≡ false = grind (arith, nat_tests, past, gap) in
+    ap (λ ys. s ∷ ys)
+    (lined_longer (t ∷ ts) from to i last (inr some, order.1.2) (omega (arith, size)) is (λ p h. within p (ap (λ b. in_span p s || b) h ∙ or_true (in_span p s)))
+    (λ more. sym (ap (λ b. b || in_spans (from - 1) (t ∷ ts)) out) ∙ top more) further)
+    ∙ sym (skip_one from to s (t ∷ ts) (omega (arith, past, gap)))
+  where
+    or_true : (z : Bool) → (z || true) ≡ true
+    or_true true = refl
+    or_true false = refl
+
+pub some_spans : (ss : List Span) → IsFromStart ss → 0 < length ss
+some_spans [] order = elim order [ ]
+some_spans (s ∷ ss) order = omega arith
+
+pub longer_last : (ss : List Span) (from to i : ℕ) (last : Span) → IsFromStart ss → i + 1 ≡ length ss → last ≡ get_or ss i last → ((p : ℕ) → in_spans p ss ≡ true → p < from)
+    → (0 < from → in_spans (from - 1) ss ≡ true) → from < to → set ss i (record { from = last.from; to = to }) ≡ add_span from to ss
+longer_last [] from to i last order size is within top further = absurd (omega (arith, size))
+longer_last (s ∷ ss) from to i last order size is within top further = lined_longer (s ∷ ss) from to i last (inl order.0, order.1) size is within top further

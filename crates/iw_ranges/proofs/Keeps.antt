@@ -78,6 +78,7 @@ sound_put f after ok from to octets some near room puts few = record {
   order = subst IsFromStart (sym puts.spans) (add_from_start from to f.spans some ok.order);
   reached = omega (arith, ok.reached, puts.floor, add_first from to f.spans ok.order, ap first_end puts.spans);
   within = λ p t. inside p (sym (in_after f after ok from to octets some puts p) ∙ t);
+  top = λ more. in_after f after ok from to octets some puts (after.end - 1) ∙ reached (omega (arith, more));
   windowed = omega (arith, ok.windowed, puts.floor, puts.last);
   stand = omega (arith, ok.stand, ok.base, ok.reached, puts.base, puts.last, puts.len);
   held = omega (arith, ok.held, room, puts.len);
@@ -89,6 +90,18 @@ sound_put f after ok from to octets some near room puts few = record {
       ∙ ap (λ v. (leb from p && ltb p to) || v) (ok.gone_came p (sym (ap (in_spans p) puts.gone) ∙ t)) ∙ or_true (leb from p && ltb p to);
 }
   where
+    reached : 0 < after.end → ((leb from (after.end - 1) && ltb (after.end - 1) to) || in_spans (after.end - 1) f.spans) ≡ true
+    reached more = elim (cases_lt f.end to) [
+      | inl further ↦
+          let here : (leb from (after.end - 1) && ltb (after.end - 1) to) ≡ true = grind (arith, nat_tests, puts.last, some, further) in
+          ap (λ b. b || in_spans (after.end - 1) f.spans) here
+      | inr before ↦
+          let same : after.end ≡ f.end = omega (arith, puts.last, before) in
+          ap (λ e. (leb from (after.end - 1) && ltb (after.end - 1) to) || in_spans (e - 1) f.spans) same
+          ∙ ap (λ b. (leb from (after.end - 1) && ltb (after.end - 1) to) || b) (ok.top (omega (arith, more, same)))
+          ∙ or_true (leb from (after.end - 1) && ltb (after.end - 1) to)
+    ]
+
     inside : (p : ℕ) → ((leb from p && ltb p to) || in_spans p f.spans) ≡ true → p < after.end
     inside p t = go (in_spans p f.spans) refl
       where

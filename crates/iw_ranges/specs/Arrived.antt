@@ -127,17 +127,12 @@ abbrev pub BringsOctets : Arrived → ℕ → ℕ → Type 0
 BringsOctets a place n = (delivery a place n ≡ Kept) × ((p : ℕ) × (place ≤ p) × (p < place + n) × (has_come a p ≡ false))
 
 -- ---- octets that are read in place
--- every place before the last that came has come
-abbrev pub HasNoGap : Arrived → Type 0
-HasNoGap a = (p : ℕ) → p < end_of a → has_come a p ≡ true
-
 -- for how many octets there can be room past the last place that came: as far as the window reaches, and no more memory than is kept where nothing came
 abbrev pub most_ahead : Arrived → ℕ
 most_ahead a = if nat_lt 0 (length a.cells) then window - length a.cells else max_idle
 
 -- n octets can be written past the last place that came, and be counted
 pub record IsReadyFor (n : ℕ) (h : Held) : Type 0 where
-  pub order : HasNoGap h.arrived
   pub near : end_of h.arrived + n ≤ h.arrived.floor + window
   pub stand : n ≤ length h.ahead
 

@@ -34,6 +34,7 @@ pub record IsSound (f : Fields) : Type 0 where
   pub missing : f.missing ≡ first_end f.spans
   pub reached : f.floor ≤ first_end f.spans
   pub within : (p : ℕ) → in_spans p f.spans ≡ true → p < f.end
+  pub top : 0 < f.end → in_spans (f.end - 1) f.spans ≡ true
   pub windowed : f.end ≤ f.floor + window
   pub stand : f.end ≤ f.base + length f.octets
   pub held : length f.octets ≤ max_held

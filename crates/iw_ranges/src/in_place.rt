@@ -1,20 +1,20 @@
 //! Octets that are read in place: a caller has them written where they are to stand, and then counts them as come.
 ghost use Rattle.std.specs.Prelude.{◌≡◌, ◌≤◌, ◌<◌, ◌+◌, ℕ, length, take, slice_index, true, IfOk, OnErr, MatchBool};
 ghost use Rattle.std.specs.Borrow.{sem};
-ghost use Rattle.iw_ranges.specs.Arrived.{delivery, delivered, end_of, HasNoGap, most_ahead, IsReadyFor};
+ghost use Rattle.iw_ranges.specs.Arrived.{delivery, delivered, end_of, window, most_ahead, IsReadyFor};
 ghost use Rattle.iw_ranges.specs.declared.Delivery.TheVariants.{Kept};
 ghost use Rattle.iw_ranges.specs.Lending.{LendsAhead};
 
 use crate::buffer::{MAX_IDLE, grow, let_go, shorten};
-use crate::spans::lengthen;
+use crate::spans::{end_of_first, lengthen_last};
 use crate::{Islands, NoMemory, WINDOW, is_beyond};
 use std::alloc::Allocator;
 
 impl<A: Allocator> Islands<A> {
     /// Makes room for `n` octets past the last place that came, and tells whether there is room for them.
     ///
-    /// There is none if a place before the last that came is missing, if one of them would lie 262,144 or more past the
-    /// in-order point, or if nothing came past that point and they are more than 131,072.
+    /// There is none if one of them would lie 262,144 or more past the in-order point, or if nothing came past that point
+    /// and they are more than 131,072.
     ///
     /// `NoMemory` leaves all as it was. It comes only if there was no room for so many octets before.
     #[inline]
@@ -22,10 +22,10 @@ impl<A: Allocator> Islands<A> {
         ensures same { self.new.arrived ≡ self.old.arrived }
         ensures room { self.new.room ≡ self.old.room }
         ensures ready { IfOk result (λ ready. ready ≡ true → IsReadyFor n self.new) }
-        ensures can { IfOk result (λ ready. HasNoGap self.old.arrived → n ≤ most_ahead self.old.arrived → ready ≡ true) }
+        ensures can { IfOk result (λ ready. n ≤ most_ahead self.old.arrived → ready ≡ true) }
         ensures memory { OnErr result (length self.old.ahead < n) }
     {
-        if self.missing != self.end || n as u64 > self.most_ahead() {
+        if n as u64 > self.most_ahead() {
             return Ok(false);
         }
         if n <= self.ahead().len() {
@@ -49,7 +49,8 @@ impl<A: Allocator> Islands<A> {
     /// For how many octets there can be room past the last place that came.
     #[inline(always)]
     fn most_ahead(&self) -> u64
-        ensures { result ≡ most_ahead self.now.arrived }
+        ensures most { result ≡ most_ahead self.now.arrived }
+        ensures near { end_of self.now.arrived + result ≤ self.now.arrived.floor + window }
     {
         if self.floor < self.end {
             self.floor + WINDOW - self.end
@@ -58,10 +59,9 @@ impl<A: Allocator> Islands<A> {
         }
     }
 
-    /// The same as [`make_room`](Islands::make_room), if all before the last place that came has come and less room is there.
+    /// The same as [`make_room`](Islands::make_room), if less room is there.
     #[inline(never)]
     fn grow_ahead(&mut self, n: usize) -> Result<bool, NoMemory>
-        requires order { HasNoGap self.old.arrived }
         requires most { n ≤ most_ahead self.old.arrived }
         ensures same { self.new.arrived ≡ self.old.arrived }
         ensures room { self.new.room ≡ self.old.room }
@@ -90,8 +90,8 @@ impl<A: Allocator> Islands<A> {
     /// Counts the first `n` of the octets that stand past the last place that came as come at place `place`, as
     /// [`add`](Islands::add) takes in octets, and tells whether it did.
     ///
-    /// It does not if `n` is 0, if `place` is not the place past the last that came, if a place before it is missing, if
-    /// one of the octets lies 262,144 or more past the in-order point, or if fewer octets stand there.
+    /// It does not if `n` is 0, if `place` is not the place past the last that came, if one of the octets lies 262,144 or
+    /// more past the in-order point, or if fewer octets stand there.
     #[inline]
     pub fn came_in_place(&mut self, place: u64, n: usize) -> bool
         ensures counted { MatchBool result (self.new.arrived ≡ delivered self.old.arrived place (take n self.old.ahead))
@@ -102,7 +102,7 @@ impl<A: Allocator> Islands<A> {
         ensures can { 0 < n → IsReadyFor n self.old → place ≡ end_of self.old.arrived → result ≡ true }
         ensures room { self.new.room ≡ self.old.room }
     {
-        if n == 0 || place != self.missing || place != self.end {
+        if n == 0 || place != self.end {
             return false;
         }
         if is_beyond(self.floor, place, n) {
@@ -113,9 +113,9 @@ impl<A: Allocator> Islands<A> {
             return false;
         }
         are_octets(ahead);
-        lengthen(&mut self.spans, place + n as u64);
-        self.missing = place + n as u64;
-        self.end = self.missing;
+        lengthen_last(&mut self.spans, place, place + n as u64);
+        self.missing = end_of_first(&self.spans);
+        self.end = place + n as u64;
         true
     }
 }

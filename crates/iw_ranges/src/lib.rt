@@ -209,6 +209,15 @@ impl<A: Allocator> Islands<A> {
         self.missing
     }
 
+    /// The place past the last that came.
+    pub fn end(&self) -> u64
+        ensures end { result ≡ end_of self.now.arrived }
+        ensures near { result ≤ self.now.arrived.floor + window }
+        ensures limits { IsWithinLimits self.now.arrived }
+    {
+        self.end
+    }
+
     /// The limits that what came keeps.
     pub fn limits(&self)
         ensures { IsWithinLimits self.now.arrived }

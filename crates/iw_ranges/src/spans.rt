@@ -1,4 +1,4 @@
-ghost use Rattle.std.specs.Prelude.{◌≡◌, ◌<◌, ◌≤◌, ◌+◌, ◌^◌, ℕ, length, true, false, MatchBool, slice_index_or, nat_lt};
+ghost use Rattle.std.specs.Prelude.{◌≡◌, ◌<◌, ◌≤◌, ◌+◌, ◌-◌, ◌^◌, ℕ, length, true, false, MatchBool, slice_index_or, nat_lt};
 ghost use Rattle.std.specs.Bool.{OnTrue};
 ghost use Rattle.std.specs.VecDeque.{deque_len, deque_capacity};
 ghost use Rattle.iw_ranges.specs.Spans.{in_spans, spans_past, first_end, IsFromStart, IsInOrder, IsFirstReaching};
@@ -11,8 +11,8 @@ use std::collections::VecDeque;
 /// How many islands there may be.
 const MAX_ISLANDS: usize = 1_024;
 
-/// The most islands that memory is kept for once all but the first are given up: 2,048 octets.
-const MAX_KEPT: usize = 128;
+/// The most islands that memory is kept for once all but the first are given up: 512 octets.
+const MAX_KEPT: usize = 32;
 
 /// The places from `from` up to `to`.
 #[derive(Clone, Copy)]
@@ -134,6 +134,21 @@ pub(crate) fn lengthen<A: Allocator>(spans: &mut VecDeque<Span, A>, to: u64)
     spans[0] = Span { from: 0, to };
 }
 
+/// Makes the last span, which ends at `from`, end at `to`.
+#[inline(always)]
+pub(crate) fn lengthen_last<A: Allocator>(spans: &mut VecDeque<Span, A>, from: u64, to: u64)
+    requires order { IsFromStart spans.old.items }
+    requires within { (p : ℕ) → in_spans p spans.old.items ≡ true → p < from }
+    requires top { 0 < from → in_spans (from - 1) spans.old.items ≡ true }
+    requires further { from < to }
+    ensures items { spans.new.items ≡ add_span from to spans.old.items }
+    ensures few { length spans.new.items ≤ length spans.old.items }
+{
+    let last = spans.len() - 1;
+    let from = spans[last].from;
+    spans[last] = Span { from, to };
+}
+
 /// Adds the places from `from` up to `to`.
 pub(crate) fn join<A: Allocator>(spans: &mut VecDeque<Span, A>, low: usize, from: u64, to: u64)
     requires room { deque_len spans.old < deque_capacity spans.old }
@@ -161,7 +176,7 @@ pub(crate) fn forget<A: Allocator>(gone: &mut VecDeque<Span, A>, to: u64)
     }
 }
 
-/// Leaves one span, of the places before `to`. Memory for more than 128 spans is given back.
+/// Leaves one span, of the places before `to`. Memory for more than 32 spans is given back.
 pub(crate) fn keep_before<A: Allocator>(spans: &mut VecDeque<Span, A>, to: u64)
     requires { IsFromStart spans.old.items }
     ensures { spans.new.items ≡ record { from = 0; to = to } ∷ [] }

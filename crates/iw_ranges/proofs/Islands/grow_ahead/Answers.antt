@@ -2,7 +2,7 @@ use Rattle.std.proofs.Common.{◌≡◌, ◌-◌, sym, ap, ◌∙◌, arith}
 use Rattle.std.proofs.lemmas.List.{length-drop}
 use Rattle.iw_ranges.specs.Arrived.{Held}
 use Rattle.iw_ranges.specs.Fields.{Fields, fields_of, arrived_in}
-use Rattle.iw_ranges.proofs.InPlace.{same_kept, reaches_floor, most_near, no_gap_is, ready_for}
+use Rattle.iw_ranges.proofs.InPlace.{same_kept, reaches_floor, most_near, ready_for}
 use Rattle.iw_ranges.proofs.Islands.grow_ahead.Goals as goal
 
 pub let_go-requires-clause-high : goal.let_go-requires-clause-high
@@ -46,5 +46,5 @@ returns-clause-ready g c = λ t.
     (sym (same_kept f ok c.grow.new.buffer.items c.shorten.new.base
     (λ p low high. c.grow.ensures.octets (p - c.shorten.new.base) ∙ c.shorten.ensures.octets p low high ∙ c.let_go.ensures.octets p (omega (arith, low, c.shorten.ensures.low)) high)
     c.shorten.ensures.high))
-    c.args.n (no_gap_is f ok c.args.self.now.arrived e c.requires.order) (most_near f ok c.args.self.now.arrived e c.args.n c.requires.most)
+    c.args.n (most_near f ok c.args.self.now.arrived e c.args.n c.requires.most)
     (omega (arith, length-drop (f.end - c.shorten.new.base) c.grow.new.buffer.items, c.in_ok-grow.ensures.len, c.grow.new.buffer.ok.0, c.shorten.ensures.high, reaches_floor f ok))
