@@ -6,15 +6,16 @@ use Rattle.std.proofs.lemmas.Bool.Decides.{eqb_tells}
 use Rattle.std.proofs.lemmas.Option.{none-some, same_Some}
 use Rattle.std.specs.Option.{option_map, option_map_or}
 use Rattle.iw_octets.specs.declared.stag.Stag.{Stag}
+use Rattle.iw_memory.specs.declared.peer.Peer.{Peer}
 use Rattle.iw_memory.specs.declared.rights.Right.{Right}
 use Rattle.iw_memory.specs.declared.region.Facts.{Facts}
 use Rattle.iw_memory.specs.declared.refusal.Deny.{Deny}
 use Rattle.iw_memory.specs.declared.refusal.Deny.TheVariants.{NotAssociated, Invalid, ToWrap, Bounds, Rights as NoRights}
-use Rattle.iw_memory.specs.Region.{Region, facts_of, grants, region_denial, region_with, octets_from}
+use Rattle.iw_memory.specs.Region.{Region, facts_of, grants, is_in_scope, region_denial_for, region_with, octets_from}
 use Rattle.iw_memory.specs.Part.{Part, own_region}
-use Rattle.iw_memory.specs.Table.{Table, part_of, with_part, region_at, denial, octets_at, put}
+use Rattle.iw_memory.specs.Table.{Table, part_of, with_part, region_at, denial_for, octets_at, put}
 use Rattle.iw_memory.specs.TableLending.{written}
-use Rattle.iw_memory.specs.Laws.{Allows, Serves, DeniesRest, KeepsFacts}
+use Rattle.iw_memory.specs.Laws.{AllowsFor, Serves, DeniesRest, KeepsFacts}
 use Rattle.iw_memory.proofs.ListLemmas.{set-set, overlay-read}
 use Rattle.iw_memory.proofs.TableLemmas.{put-nothing}
 use Rattle.iw_memory.proofs.LawLemmas.{put-changes}
@@ -36,18 +37,18 @@ with_part-with_part table domain first second = set-set table domain first secon
 -- ---- what is denied
 
 pub denies_rest : DeniesRest
-denies_rest table pd stag to n right = search rules
+denies_rest table peer stag to n right = search rules
 
 -- what is not denied is allowed
-pub allows : (table : Table) (pd : ℕ) (stag : Stag) (to n : ℕ) (right : Right) → denial table pd stag to n right ≡ None → Allows table pd stag to n right
-allows table pd stag to n right none = (denies_rest table pd stag to n right).0 none
+pub allows : (table : Table) (peer : Peer) (stag : Stag) (to n : ℕ) (right : Right) → denial_for table peer stag to n right ≡ None → AllowsFor table peer stag to n right
+allows table peer stag to n right none = (denies_rest table peer stag to n right).0 none
 
-served : (r : Region) (to n : ℕ) (right : Right) → Serves r to n right → length (octets_from r to n) ≡ n
-served r to n right serves = grind (arith, length-take, length-drop, serves.from_base, serves.to_end)
+served : (r : Region) (stream : Option ℕ) (to n : ℕ) (right : Right) → Serves r stream to n right → length (octets_from r to n) ≡ n
+served r stream to n right serves = grind (arith, length-take, length-drop, serves.from_base, serves.to_end)
 
 -- a part that may be used has as many octets as were asked for
-pub length-octets_at : (table : Table) (pd : ℕ) (stag : Stag) (to n : ℕ) (right : Right) → denial table pd stag to n right ≡ None → length (octets_at table stag to n) ≡ n
-length-octets_at table pd stag to n right none = elim (allows table pd stag to n right none) [
+pub length-octets_at : (table : Table) (peer : Peer) (stag : Stag) (to n : ℕ) (right : Right) → denial_for table peer stag to n right ≡ None → length (octets_at table stag to n) ≡ n
+length-octets_at table peer stag to n right none = elim (allows table peer stag to n right none) [
   | inl nothing ↦ empty (region_at table stag) nothing
   | inr allowed ↦ found (region_at table stag) allowed.1
 ]
@@ -56,46 +57,47 @@ length-octets_at table pd stag to n right none = elim (allows table pd stag to n
     empty None e = sym e
     empty (Some r) e = omega (arith, length-take n (drop (to - r.base) r.octets))
 
-    found : (o : Option Region) → IsSomeAnd o (λ r. Serves r to n right) → length (option_map_or (λ r. octets_from r to n) o []) ≡ n
+    found : (o : Option Region) → IsSomeAnd o (λ r. Serves r peer.stream to n right) → length (option_map_or (λ r. octets_from r to n) o []) ≡ n
     found None holds = absurd holds
-    found (Some r) holds = served r to n right holds
+    found (Some r) holds = served r peer.stream to n right holds
 
 -- what is allowed is not denied
-pub denial-none : (table : Table) (pd : ℕ) (stag : Stag) (to n : ℕ) (right : Right) → Allows table pd stag to n right → denial table pd stag to n right ≡ None
-denial-none table pd stag to n right allowed = (denies_rest table pd stag to n right).1 allowed
+pub denial-none : (table : Table) (peer : Peer) (stag : Stag) (to n : ℕ) (right : Right) → AllowsFor table peer stag to n right → denial_for table peer stag to n right ≡ None
+denial-none table peer stag to n right allowed = (denies_rest table peer stag to n right).1 allowed
 
 -- an STag of the domain is looked for in the domain's part
-own_region-region_at : (table : Table) (pd : ℕ) (stag : Stag) → (stag.domain == pd) ≡ true → own_region (part_of table pd) stag ≡ region_at table stag
+pub own_region-region_at : (table : Table) (pd : ℕ) (stag : Stag) → (stag.domain == pd) ≡ true → own_region (part_of table pd) stag ≡ region_at table stag
 own_region-region_at table pd stag here = ap (λ d. own_region (part_of table d) stag) (sym (eqb-true stag.domain pd here))
 
 -- what is denied is told by the facts of the region
-abbrev facts_denial : Facts → ℕ → ℕ → Right → Option Deny
-facts_denial f to n right =
-    if not f.valid then Some Invalid else
+abbrev facts_denial : Facts → Option ℕ → ℕ → ℕ → Right → Option Deny
+facts_denial f stream to n right =
+    if not (is_in_scope f.bound stream) then Some NotAssociated else
+    (if not f.valid then Some Invalid else
     (if nat_lt (2 ^ 64) (to + n) then Some ToWrap else
     (if nat_lt to f.base || nat_lt (f.base + f.len) (to + n) then Some Bounds else
-    (if not (grants f.rights right) then Some NoRights else None)))
+    (if not (grants f.rights right) then Some NoRights else None))))
 
-abbrev found_denial : Option Region → ℕ → ℕ → Right → Option Deny
-found_denial found to n right = option_map_or (λ r. region_denial r to n right) found (Some Invalid)
+abbrev found_denial : Option Region → Option ℕ → ℕ → ℕ → Right → Option Deny
+found_denial found stream to n right = option_map_or (λ r. region_denial_for r stream to n right) found (Some Invalid)
 
-found_denial-same_facts : (old new : Option Region) (to n : ℕ) (right : Right) → option_map facts_of new ≡ option_map facts_of old → found_denial new to n right ≡ found_denial old to n right
-found_denial-same_facts None None to n right same = refl
-found_denial-same_facts None (Some b) to n right same = absurd (none-some (facts_of b) (sym same))
-found_denial-same_facts (Some a) None to n right same = absurd (none-some (facts_of a) same)
-found_denial-same_facts (Some a) (Some b) to n right same = ap (λ f. facts_denial f to n right) (same_Some _ _ same)
+found_denial-same_facts : (old new : Option Region) (stream : Option ℕ) (to n : ℕ) (right : Right) → option_map facts_of new ≡ option_map facts_of old → found_denial new stream to n right ≡ found_denial old stream to n right
+found_denial-same_facts None None stream to n right same = refl
+found_denial-same_facts None (Some b) stream to n right same = absurd (none-some (facts_of b) (sym same))
+found_denial-same_facts (Some a) None stream to n right same = absurd (none-some (facts_of a) same)
+found_denial-same_facts (Some a) (Some b) stream to n right same = ap (λ f. facts_denial f stream to n right) (same_Some _ _ same)
 
 -- what keeps each region's facts changes no denial
-pub denial-same_facts : (old new : Table) → KeepsFacts old new → (pd : ℕ) (stag : Stag) (to n : ℕ) (right : Right) → denial new pd stag to n right ≡ denial old pd stag to n right
-denial-same_facts old new kept pd stag to n right = ap (λ o. cond (n == 0) None o) (go (stag.domain == pd) refl)
+pub denial-same_facts : (old new : Table) → KeepsFacts old new → (peer : Peer) (stag : Stag) (to n : ℕ) (right : Right) → denial_for new peer stag to n right ≡ denial_for old peer stag to n right
+denial-same_facts old new kept peer stag to n right = ap (λ o. cond (n == 0) None o) (go (stag.domain == peer.domain) refl)
   where
-    go : (b : Bool) → (stag.domain == pd) ≡ b →
-        cond (not b) (Some NotAssociated) (found_denial (own_region (part_of new pd) stag) to n right) ≡ cond (not b) (Some NotAssociated) (found_denial (own_region (part_of old pd) stag) to n right)
+    go : (b : Bool) → (stag.domain == peer.domain) ≡ b →
+        cond (not b) (Some NotAssociated) (found_denial (own_region (part_of new peer.domain) stag) peer.stream to n right) ≡ cond (not b) (Some NotAssociated) (found_denial (own_region (part_of old peer.domain) stag) peer.stream to n right)
     go false e = refl
     go true e =
-        ap (λ r. found_denial r to n right) (own_region-region_at new pd stag e)
-        ∙ found_denial-same_facts (region_at old stag) (region_at new stag) to n right (kept stag)
-        ∙ ap (λ r. found_denial r to n right) (sym (own_region-region_at old pd stag e))
+        ap (λ r. found_denial r peer.stream to n right) (own_region-region_at new peer.domain stag e)
+        ∙ found_denial-same_facts (region_at old stag) (region_at new stag) peer.stream to n right (kept stag)
+        ∙ ap (λ r. found_denial r peer.stream to n right) (sym (own_region-region_at old peer.domain stag e))
 
 -- ---- what is put
 
@@ -109,10 +111,10 @@ region_at-put_other table stag other to octets ne = (put-changes table stag to o
 pub put-keeps_facts : (table : Table) (stag : Stag) (to : ℕ) (octets : List ℕ) → KeepsFacts table (put table stag to octets)
 put-keeps_facts table stag to octets = (put-changes table stag to octets).facts
 
-pub denial-put : (table : Table) (stag : Stag) (to : ℕ) (octets : List ℕ) (pd : ℕ) (other : Stag) (from n : ℕ) (right : Right) → denial (put table stag to octets) pd other from n right ≡ denial table pd other from n right
+pub denial-put : (table : Table) (stag : Stag) (to : ℕ) (octets : List ℕ) (peer : Peer) (other : Stag) (from n : ℕ) (right : Right) → denial_for (put table stag to octets) peer other from n right ≡ denial_for table peer other from n right
 denial-put table stag to octets = denial-same_facts table (put table stag to octets) (put-keeps_facts table stag to octets)
 
-no_octets : (xs : List ℕ) → length xs ≡ 0 → xs ≡ []
+pub no_octets : (xs : List ℕ) → length xs ≡ 0 → xs ≡ []
 no_octets [] e = refl
 no_octets (x ∷ xs) e = absurd (omega arith)
 
@@ -128,18 +130,18 @@ nothing_taken : (o : Option Region) (to n : ℕ) → n ≡ 0 → option_map_or (
 nothing_taken None to n none = refl
 nothing_taken (Some r) to n none = ap (λ n. octets_from r to n) none
 
-read_again : (r : Region) (to n : ℕ) (octets : List ℕ) (right : Right) → n ≡ length octets → Serves r to n right → octets_from (region_with r to octets) to n ≡ octets
-read_again r to n octets right len serves =
+read_again : (r : Region) (to n : ℕ) (octets : List ℕ) (stream : Option ℕ) (right : Right) → n ≡ length octets → Serves r stream to n right → octets_from (region_with r to octets) to n ≡ octets
+read_again r to n octets stream right len serves =
     ap (λ n. octets_from (region_with r to octets) to n) len
     ∙ overlay-read r.octets (to - r.base) octets (omega (arith, serves.from_base, serves.to_end, len))
 
 -- what was placed stands there
-pub octets_at-put : (table : Table) (pd : ℕ) (stag : Stag) (to : ℕ) (octets : List ℕ) (right : Right) → denial table pd stag to (length octets) right ≡ None → octets_at (put table stag to octets) stag to (length octets) ≡ octets
-octets_at-put table pd stag to octets right none = elim (allows table pd stag to (length octets) right none) [
+pub octets_at-put : (table : Table) (peer : Peer) (stag : Stag) (to : ℕ) (octets : List ℕ) (right : Right) → denial_for table peer stag to (length octets) right ≡ None → octets_at (put table stag to octets) stag to (length octets) ≡ octets
+octets_at-put table peer stag to octets right none = elim (allows table peer stag to (length octets) right none) [
   | inl nothing ↦ nothing_taken (region_at (put table stag to octets) stag) to (length octets) nothing ∙ sym (no_octets octets nothing)
   | inr allowed ↦ ap (λ o. option_map_or (λ r. octets_from r to (length octets)) o []) (region_at-put_same table stag to octets) ∙ go (region_at table stag) allowed.1
 ]
   where
-    go : (o : Option Region) → IsSomeAnd o (λ r. Serves r to (length octets) right) → option_map_or (λ r. octets_from r to (length octets)) (option_map (λ r. region_with r to octets) o) [] ≡ octets
+    go : (o : Option Region) → IsSomeAnd o (λ r. Serves r peer.stream to (length octets) right) → option_map_or (λ r. octets_from r to (length octets)) (option_map (λ r. region_with r to octets) o) [] ≡ octets
     go None holds = absurd holds
-    go (Some r) holds = read_again r to (length octets) octets right refl holds
+    go (Some r) holds = read_again r to (length octets) octets peer.stream right refl holds

@@ -156,7 +156,7 @@ stag_cases a b = elim (eqb_tells a.domain b.domain) [
 
 facts_with : (r : Option Region) (to : ℕ) (octets : List ℕ) → option_map facts_of (option_map (λ x. region_with x to octets) r) ≡ option_map facts_of r
 facts_with None to octets = refl
-facts_with (Some r) to octets = ap (λ n. Some (record { base = r.base; len = n; rights = r.rights; valid = r.valid })) (length-overlay r.octets (to - r.base) octets)
+facts_with (Some r) to octets = ap (λ n. Some (record { base = r.base; len = n; rights = r.rights; bound = r.bound; valid = r.valid })) (length-overlay r.octets (to - r.base) octets)
 
 pub put-changes : (table : Table) (stag : Stag) (to : ℕ) (octets : List ℕ) → PutsAt table stag to octets
 put-changes table stag to octets =

@@ -15,8 +15,8 @@ step table domain own within d here =
 
 pub domains_apart : (table : Table) (domain : ℕ) → domain < length table → OwnSteps table domain
 domains_apart table domain within = record {
-  denied = λ stag to n right. refl;
-  invalidate_denied = λ stag. refl;
+  denied = λ stream stag to n right. refl;
+  invalidate_denied = λ stream stag. refl;
   region = λ stag here. ap (λ d. own_region (part_of table d) stag) here;
   store_refused = λ stag to n here. ap (λ d. own_store_refusal (part_of table d) stag to n) here;
   add_refused = refl;
@@ -25,6 +25,7 @@ domains_apart table domain within = record {
   puts = λ stag to octets here. step table domain (λ part. own_put part stag to octets) within stag.domain here;
   changes = λ stag change here. step table domain (λ part. own_changed part stag change) within stag.domain here;
   invalidates = λ stag here. step table domain (λ part. own_invalidated part stag) within stag.domain here;
+  retires = λ stream. with_part-sets table domain _ within;
   deregisters = λ stag here. step table domain (λ part. own_deregistered part stag) within stag.domain here;
   registers = λ region. with_part-sets table domain _ within;
   adds = with_part-sets table domain _ within;

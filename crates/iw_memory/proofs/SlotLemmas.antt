@@ -1,35 +1,28 @@
 -- The slots of a domain, in the vectors.
-use Rattle.std.proofs.Common.{◌≡◌, ℕ, suc, ◌+◌, ◌<◌, ◌≤◌, true, false, cond, not, nat_lt, Bool, List, [], ◌∷◌, ◌++◌, map, length, get_or, Option, Some, None, Vec, is_some, IsTrue, refl, sym, ap, subst, ◌∙◌, arith, inl, inr, length-append}
+use Rattle.std.proofs.Common.{◌≡◌, ℕ, suc, ◌+◌, ◌<◌, ◌≤◌, true, false, cond, not, nat_lt, Bool, List, [], ◌∷◌, ◌++◌, map, length, get_or, Option, Some, None, is_some, IsTrue, refl, sym, ap, subst, ◌∙◌, arith, inl, inr, length-append}
 use Rattle.iw_memory.proofs.ListLemmas.{get_or-push_default}
-use Rattle.std.proofs.lemmas.List.{get_or_past, get_or_default}
+use Rattle.std.proofs.lemmas.List.{get_or_past}
 use Rattle.std.proofs.lemmas.Bool.{cases_lt, lt-ltb, le-ltb}
 use Rattle.std.specs.List.{position_or_len, position}
-use Rattle.std.specs.Option.{option_map, unwrap_or}
+use Rattle.std.specs.Option.{unwrap_or}
 use Rattle.iw_memory.specs.declared.slots.Slot.{Slot}
 use Rattle.iw_memory.specs.Inside.{Slots, slots_in, free, with_room_at}
 
-abbrev pub items_of : {A : Type 0} → Option (Vec Slot A) → List Slot
-items_of {A} o = unwrap_or (option_map (λ v. v.items) o) []
-
-pub domain_of_slot : {A : Type 0} (domains : Slots A) (d i : ℕ) → i < length (slots_in domains d) → d < length domains
-domain_of_slot {A} domains d i l = elim (cases_lt d (length domains)) [
+pub domain_of_slot : (domains : Slots) (d i : ℕ) → i < length (slots_in domains d) → d < length domains
+domain_of_slot domains d i l = elim (cases_lt d (length domains)) [
   | inl within ↦ within
-  | inr past ↦ let none : length (slots_in domains d) ≡ 0 = ap (λ o. length (items_of o)) (get_or_past domains d None past) in absurd (omega arith)
+  | inr past ↦ let none : length (slots_in domains d) ≡ 0 = ap (λ (o : Option (List Slot)). length (unwrap_or o [])) (get_or_past domains d None past) in absurd (omega arith)
 ]
 
-pub not_none : {A : Type 0} (o : Option (Vec Slot A)) → o ≡ None → IsTrue (is_some o) → ⊥
-not_none {A} None e t = cc
-not_none {A} (Some v) e t = cc
+pub not_none : (o : Option (List Slot)) → o ≡ None → IsTrue (is_some o) → ⊥
+not_none None e t = cc
+not_none (Some v) e t = cc
 
-pub domain_added : {A : Type 0} (domains : Slots A) (d : ℕ) → IsTrue (is_some (get_or domains d None)) → d < length domains
-domain_added {A} domains d added = elim (cases_lt d (length domains)) [
+pub domain_added : (domains : Slots) (d : ℕ) → IsTrue (is_some (get_or domains d None)) → d < length domains
+domain_added domains d added = elim (cases_lt d (length domains)) [
   | inl within ↦ within
   | inr past ↦ absurd (not_none _ (get_or_past domains d None past) added)
 ]
-
--- what is read at a domain's place are its slots
-pub slots_known : {A : Type 0} (domains : Slots A) (d : ℕ) (o : Option (Vec Slot A)) (v : Vec Slot A) → d < length domains → o ≡ get_or domains d o → o ≡ Some v → v.items ≡ slots_in domains d
-slots_known {A} domains d o v within read is = ap items_of (sym is ∙ read ∙ get_or_default domains d o None within)
 
 pub first_within : {X : Type 0} (p : X → Bool) (xs : List X) → position_or_len p xs ≤ length xs
 first_within p [] = omega arith

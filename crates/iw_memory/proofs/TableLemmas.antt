@@ -1,7 +1,7 @@
 -- What the fields of a memory mean as a table, and how that changes with them.
-use Rattle.std.proofs.Common.{IsTrue, subst, IsSome, IsSomeAnd, IfSome, ◌≤◌, ◌≡◌, ◌≢◌, ℕ, zero, suc, ◌+◌, ◌%◌, ◌-◌, ◌<◌, ◌^◌, ◌==◌, nat_lt, nat_le, not, if◌then◌else◌, Bool, true, false, cond, List, [], ◌∷◌, ◌++◌, map, length, get_or, set, replicate, take, Option, Some, None, is_some, is_none, Vec, refl, sym, ap, ◌∙◌, arith, inl, inr, get_or-set_other, get_or-set_same}
+use Rattle.std.proofs.Common.{IsTrue, subst, IsSome, IsSomeAnd, IfSome, ◌≤◌, ◌≡◌, ◌≢◌, ℕ, zero, suc, ◌+◌, ◌%◌, ◌-◌, ◌<◌, ◌^◌, ◌==◌, nat_lt, nat_le, not, if◌then◌else◌, Bool, true, false, cond, List, [], ◌∷◌, ◌++◌, map, length, get_or, set, replicate, take, Option, Some, None, is_some, is_none, refl, sym, ap, ◌∙◌, arith, inl, inr, get_or-set_other, get_or-set_same}
 use Rattle.std.proofs.Math.ListN.{get_or-map}
-use Rattle.std.proofs.lemmas.List.{get_or_default, set-get_or, get_or_past, take-append-drop, length-set, map-set, length-map, map-append}
+use Rattle.std.proofs.lemmas.List.{set-get_or, get_or_past, take-append-drop, length-set, map-set, length-map, map-append}
 use Rattle.std.proofs.Math.Seq.{take-length}
 use Rattle.std.proofs.lemmas.Option.{none-some, same_Some}
 use Rattle.std.proofs.lemmas.Bool.{cases_lt, eqb-true}
@@ -20,50 +20,51 @@ use Rattle.iw_memory.specs.Held.{Held}
 use Rattle.iw_memory.specs.Part.{SlotState, unused, under_key, own_slot, free_slot, with_room}
 use Rattle.iw_memory.specs.Table.{Table, empty, part_of, with_part, slots_of, region_at, with_slot, with_region, put, domain_refusal, register_refusal, is_added, added, registered, deregistered, invalidated, octets_at}
 use Rattle.iw_memory.specs.Laws.{HoldsLimits, IsWithin}
-use Rattle.iw_memory.specs.Inside.{Slots, table_of, states_of, state_of, region_in, slots_in, link_at, link_of, free, IsHeldFor, IsSound, Keeps, SetsSlots, is_free, with_room_at}
+use Rattle.iw_memory.specs.Inside.{Slots, no_places, table_of, states_of, state_of, region_in, slots_in, link_at, link_of, free, IsHeldFor, IsSound, Keeps, SetsSlots, is_free, with_room_at}
 use Rattle.iw_memory.proofs.ListLemmas.{map-replicate, map-same, map-set_others, set-set}
-use Rattle.iw_memory.proofs.SlotLemmas.{items_of, domain_of_slot, domain_added, not_none, position_or_len-map}
+use Rattle.iw_memory.proofs.SlotLemmas.{domain_of_slot, domain_added, not_none, position_or_len-map}
 
-pub table_of-empty : (A : Type 0) (regions : Slab Held) → table_of {A = A} (replicate 256 None) regions ≡ empty
-unfolding empty
-table_of-empty A regions = map-replicate (states_of {A = A} regions) 256 None
+pub table_of-empty : (regions : Slab Held) → table_of no_places regions ≡ empty
+unfolding empty no_places
+table_of-empty regions = map-replicate (states_of regions) 256 None
 
-none_in : (A : Type 0) (n d : ℕ) → slots_in {A = A} (replicate n None) d ≡ []
-none_in A zero d = refl
-none_in A (suc n) zero = refl
-none_in A (suc n) (suc d) = none_in A n d
+none_in : (n d : ℕ) → slots_in (replicate n None) d ≡ []
+none_in zero d = refl
+none_in (suc n) zero = refl
+none_in (suc n) (suc d) = none_in n d
 
-pub Keeps-empty : {A : Type 0} (domains : Slots A) (regions : Slab Held) (nothing : List ℕ) → domains ≡ replicate 256 None → nothing ≡ [] → Keeps domains regions nothing
-Keeps-empty {A} domains regions nothing none empty = record {
+pub Keeps-empty : (domains : Slots) (regions : Slab Held) (nothing : List ℕ) → domains ≡ no_places → nothing ≡ [] → Keeps domains regions nothing
+unfolding no_places
+Keeps-empty domains regions nothing none empty = record {
   sound = record {
     all_numbers = ap length none;
     no_zero = ap (λ ds. get_or ds 0 None) none;
-    linked = λ d i k link. absurd (none-some k (sym (ap (λ (ss : List Slot). (get_or ss i free).at) (ap (λ ds. slots_in ds d) none ∙ none_in A 256 d)) ∙ link));
-    few = λ d. subst (λ (ss : List Slot). length ss ≤ 1024) (sym (ap (λ ds. slots_in ds d) none ∙ none_in A 256 d)) (omega arith);
+    linked = λ d i k link. absurd (none-some k (sym (ap (λ (ss : List Slot). (get_or ss i free).at) (ap (λ ds. slots_in ds d) none ∙ none_in 256 d)) ∙ link));
+    few = λ d. subst (λ (ss : List Slot). length ss ≤ 1024) (sym (ap (λ ds. slots_in ds d) none ∙ none_in 256 d)) (omega arith);
   };
   no_octets = ap length empty;
 }
 
-unwrap-states : {A : Type 0} (regions : Slab Held) (o : Option (Vec Slot A)) → unwrap_or (states_of regions o) [] ≡ map (state_of regions) (unwrap_or (option_map (λ v. v.items) o) [])
-unwrap-states {A} regions None = refl
-unwrap-states {A} regions (Some v) = refl
+unwrap-states : (regions : Slab Held) (o : Option (List Slot)) → unwrap_or (states_of regions o) [] ≡ map (state_of regions) (unwrap_or o [])
+unwrap-states regions None = refl
+unwrap-states regions (Some v) = refl
 
-pub slots_of-table_of : {A : Type 0} (domains : Slots A) (regions : Slab Held) (d : ℕ) → slots_of (table_of domains regions) d ≡ map (state_of regions) (slots_in domains d)
-slots_of-table_of {A} domains regions d =
+pub slots_of-table_of : (domains : Slots) (regions : Slab Held) (d : ℕ) → slots_of (table_of domains regions) d ≡ map (state_of regions) (slots_in domains d)
+slots_of-table_of domains regions d =
     ap (λ o. unwrap_or o []) (get_or-map (states_of regions) domains d None) ∙ unwrap-states regions (get_or domains d None)
 
 under_key-state : (regions : Slab Held) (s : Slot) (key : ℕ) → under_key (state_of regions s) key ≡ region_in regions (cond (s.key == key) s.at None)
 under_key-state regions s key = elim (s.key == key) as (λ b. cond b (region_in regions s.at) None ≡ region_in regions (cond b s.at None)) [ true ↦ refl | false ↦ refl ]
 
-pub region_at-table_of : {A : Type 0} (domains : Slots A) (regions : Slab Held) (stag : Stag) → region_at (table_of domains regions) stag ≡ region_in regions (link_of domains stag)
-region_at-table_of {A} domains regions stag =
+pub region_at-table_of : (domains : Slots) (regions : Slab Held) (stag : Stag) → region_at (table_of domains regions) stag ≡ region_in regions (link_of domains stag)
+region_at-table_of domains regions stag =
     ap (λ ss. under_key (get_or ss stag.slot unused) stag.key) (slots_of-table_of domains regions stag.domain)
     ∙ ap (λ s. under_key s stag.key) (get_or-map (state_of regions) (slots_in domains stag.domain) stag.slot free)
     ∙ under_key-state regions (get_or (slots_in domains stag.domain) stag.slot free) stag.key
 
 -- the slab has the same under each key that a slot other than slot i of domain d has
-abbrev pub SameElsewhere : {A : Type 0} → Slots A → Slab Held → Slab Held → ℕ → ℕ → Type 0
-SameElsewhere {A} domains old new d i =
+abbrev pub SameElsewhere : Slots → Slab Held → Slab Held → ℕ → ℕ → Type 0
+SameElsewhere domains old new d i =
     (j m k : ℕ) → ((j ≡ d) → (m ≡ i) → ⊥) → link_at domains j m ≡ Some k → get new k ≡ get old k
 
 same_region : (old new : Slab Held) (at : Option ℕ) → ((k : ℕ) → at ≡ Some k → get new k ≡ get old k) → region_in new at ≡ region_in old at
@@ -73,13 +74,13 @@ same_region old new (Some k) h = ap (option_map (λ x. x.region)) (h k refl)
 same_state : (old new : Slab Held) (s : Slot) → ((k : ℕ) → s.at ≡ Some k → get new k ≡ get old k) → state_of new s ≡ state_of old s
 same_state old new s h = ap (λ r. record { key = s.key; region = r }) (same_region old new s.at h)
 
-same_states : {A : Type 0} (old new : Slab Held) (o : Option (Vec Slot A)) → ((m k : ℕ) → (get_or (unwrap_or (option_map (λ v. v.items) o) []) m free).at ≡ Some k → get new k ≡ get old k) → states_of new o ≡ states_of old o
-same_states {A} old new None h = refl
-same_states {A} old new (Some v) h = ap Some (map-same (state_of old) (state_of new) v.items free (λ m l. same_state old new (get_or v.items m free) (h m)))
+pub same_states : (old new : Slab Held) (o : Option (List Slot)) → ((m k : ℕ) → (get_or (unwrap_or o []) m free).at ≡ Some k → get new k ≡ get old k) → states_of new o ≡ states_of old o
+same_states old new None h = refl
+same_states old new (Some v) h = ap Some (map-same (state_of old) (state_of new) v free (λ m l. same_state old new (get_or v m free) (h m)))
 
 -- one slot is changed, and what the slab has for the others stays
-pub table_of-changed : {A : Type 0} (domains : Slots A) (old new : Slab Held) (d i : ℕ) (v : Vec Slot A) (s : Slot) → v.items ≡ set (slots_in domains d) i s → SameElsewhere domains old new d i → table_of (set domains d (Some v)) new ≡ with_slot (table_of domains old) d i (state_of new s)
-table_of-changed {A} domains old new d i v s items same =
+pub table_of-changed : (domains : Slots) (old new : Slab Held) (d i : ℕ) (v : List Slot) (s : Slot) → v ≡ set (slots_in domains d) i s → SameElsewhere domains old new d i → table_of (set domains d (Some v)) new ≡ with_slot (table_of domains old) d i (state_of new s)
+table_of-changed domains old new d i v s items same =
     map-set_others (states_of old) (states_of new) domains d (Some v) None (λ j l ne. same_states old new (get_or domains j None) (λ m k e. same j m k (λ p q. ne p) e))
     ∙ ap (λ ss. set (table_of domains old) d (Some ss))
     (ap (map (state_of new)) items
@@ -101,8 +102,8 @@ pub get-with_value_other : (regions : Slab Held) (k j : ℕ) (new : Held) → j 
 get-with_value_other regions k j new ne = get_or-set_other regions.slots k j (Some new) None ne
 
 -- a stored region belongs to one slot
-pub link_unique : {A : Type 0} {domains : Slots A} {regions : Slab Held} → IsSound domains regions → (d i j m k : ℕ) → link_at domains d i ≡ Some k → link_at domains j m ≡ Some k → (j ≡ d) × (m ≡ i)
-link_unique {A} sound d i j m k a b =
+pub link_unique : {domains : Slots} {regions : Slab Held} → IsSound domains regions → (d i j m k : ℕ) → link_at domains d i ≡ Some k → link_at domains j m ≡ Some k → (j ≡ d) × (m ≡ i)
+link_unique sound d i j m k a b =
     let x = sound.linked d i k a in let y = sound.linked j m k b in
     let e : record { domain = j; slot = m; region = y.region } ≡ record { domain = d; slot = i; region = x.region } = same_Some _ _ (sym y.held ∙ x.held) in
     (ap (λ (h : Held). h.domain) e, ap (λ (h : Held). h.slot) e)
@@ -112,23 +113,23 @@ cond_at true o k e = (refl, e)
 cond_at false o k e = absurd (none-some k e)
 
 -- what an STag that names a region says of its slot
-pub link_of_slot : {A : Type 0} (domains : Slots A) (stag : Stag) (k : ℕ) → link_of domains stag ≡ Some k → ((get_or (slots_in domains stag.domain) stag.slot free).key == stag.key ≡ true) × (link_at domains stag.domain stag.slot ≡ Some k)
-link_of_slot {A} domains stag k e = cond_at _ _ k e
+pub link_of_slot : (domains : Slots) (stag : Stag) (k : ℕ) → link_of domains stag ≡ Some k → ((get_or (slots_in domains stag.domain) stag.slot free).key == stag.key ≡ true) × (link_at domains stag.domain stag.slot ≡ Some k)
+link_of_slot domains stag k e = cond_at _ _ k e
 
-same_outside : {A : Type 0} {domains : Slots A} {regions : Slab Held} → IsSound domains regions → (d i k : ℕ) (new : Held) → link_at domains d i ≡ Some k → SameElsewhere domains regions (with_value regions k new) d i
-same_outside {A} {domains} {regions} sound d i k new at j m l elsewhere e =
+same_outside : {domains : Slots} {regions : Slab Held} → IsSound domains regions → (d i k : ℕ) (new : Held) → link_at domains d i ≡ Some k → SameElsewhere domains regions (with_value regions k new) d i
+same_outside {domains} {regions} sound d i k new at j m l elsewhere e =
     get-with_value_other regions k l new (λ (same : l ≡ k). let two = link_unique sound d i j m k at (e ∙ ap Some same) in elsewhere two.0 two.1)
 
 -- the region that an STag names is changed, and its slot stays
-pub table_of-with_value : {A : Type 0} {domains : Slots A} {regions : Slab Held} → IsSound domains regions → (stag : Stag) (k : ℕ) (h new : Held) → link_of domains stag ≡ Some k → get regions k ≡ Some h →
+pub table_of-with_value : {domains : Slots} {regions : Slab Held} → IsSound domains regions → (stag : Stag) (k : ℕ) (h new : Held) → link_of domains stag ≡ Some k → get regions k ≡ Some h →
     table_of domains (with_value regions k new) ≡ with_slot (table_of domains regions) stag.domain stag.slot (record { key = stag.key; region = Some new.region })
-table_of-with_value {A} {domains} {regions} sound stag k h new link held =
+table_of-with_value {domains} {regions} sound stag k h new link held =
     let slot = link_of_slot domains stag k link in
     let s = get_or (slots_in domains stag.domain) stag.slot free in
     elim (get_or domains stag.domain None) as (λ o. get_or domains stag.domain None ≡ o → table_of domains (with_value regions k new) ≡ with_slot (table_of domains regions) stag.domain stag.slot (record { key = stag.key; region = Some new.region })) [
-      | None ↦ λ e. absurd (none-some k (sym (ap (λ (o : Option (Vec Slot A)). (get_or (unwrap_or (option_map (λ v. v.items) o) []) stag.slot free).at) e) ∙ slot.1))
+      | None ↦ λ e. absurd (none-some k (sym (ap (λ (o : Option (List Slot)). (get_or (unwrap_or o []) stag.slot free).at) e) ∙ slot.1))
       | Some v ↦ λ e.
-          let items : v.items ≡ slots_in domains stag.domain = ap (λ (o : Option (Vec Slot A)). unwrap_or (option_map (λ v. v.items) o) []) (sym e) in
+          let items : v ≡ slots_in domains stag.domain = ap (λ (o : Option (List Slot)). unwrap_or o []) (sym e) in
           let whole : set domains stag.domain (Some v) ≡ domains = ap (set domains stag.domain) (sym e) ∙ set-get_or domains stag.domain None in
           let same : state_of (with_value regions k new) s ≡ record { key = stag.key; region = Some new.region } =
           λ i. record { key = eqb-true s.key stag.key slot.0 i; region = (ap (region_in (with_value regions k new)) slot.1 ∙ ap (option_map (λ h. h.region)) (get-with_value_same regions k h new held)) i } in
@@ -138,8 +139,8 @@ table_of-with_value {A} {domains} {regions} sound stag k h new link held =
     ] refl
 
 -- what an STag names is what is stored for it
-pub region_at-held : {A : Type 0} (domains : Slots A) (regions : Slab Held) (stag : Stag) (k : ℕ) (h : Held) → link_of domains stag ≡ Some k → get regions k ≡ Some h → region_at (table_of domains regions) stag ≡ Some h.region
-region_at-held {A} domains regions stag k h link held =
+pub region_at-held : (domains : Slots) (regions : Slab Held) (stag : Stag) (k : ℕ) (h : Held) → link_of domains stag ≡ Some k → get regions k ≡ Some h → region_at (table_of domains regions) stag ≡ Some h.region
+region_at-held domains regions stag k h link held =
     region_at-table_of domains regions stag ∙ ap (region_in regions) link ∙ ap (option_map (λ x. x.region)) held
 
 -- the region that is found is changed
@@ -149,9 +150,9 @@ with_region-found table stag change r found =
     let part = part_of table stag.domain in
     ap (λ o. with_part table stag.domain (option_map_or (λ r. own_slot part stag.slot (record { key = stag.key; region = Some (change r) })) o part)) found
 
-pub table_of-change : {A : Type 0} {domains : Slots A} {regions : Slab Held} → IsSound domains regions → (stag : Stag) (k : ℕ) (h new : Held) (change : Region → Region) → link_of domains stag ≡ Some k → get regions k ≡ Some h → new.region ≡ change h.region →
+pub table_of-change : {domains : Slots} {regions : Slab Held} → IsSound domains regions → (stag : Stag) (k : ℕ) (h new : Held) (change : Region → Region) → link_of domains stag ≡ Some k → get regions k ≡ Some h → new.region ≡ change h.region →
     table_of domains (with_value regions k new) ≡ with_region (table_of domains regions) stag change
-table_of-change {A} {domains} {regions} sound stag k h new change link held is =
+table_of-change {domains} {regions} sound stag k h new change link held is =
     table_of-with_value sound stag k h new link held
     ∙ ap (λ r. with_slot (table_of domains regions) stag.domain stag.slot (record { key = stag.key; region = Some r })) is
     ∙ sym (with_region-found (table_of domains regions) stag change h.region (region_at-held domains regions stag k h link held))
@@ -160,9 +161,9 @@ kept_limits : {a b m n : ℕ} → IsWithinLimits a m → b ≡ a → n ≡ m →
 kept_limits {a} {b} {m} {n} limits base len = subst (λ x. IsWithinLimits x n) (sym base) (subst (λ x. IsWithinLimits a x) (sym len) limits)
 
 -- a stored region that still belongs to its slot, and has as many octets from the same base on
-pub IsSound-with_value : {A : Type 0} {domains : Slots A} {regions : Slab Held} → IsSound domains regions → (k : ℕ) (h new : Held) → get regions k ≡ Some h → new.domain ≡ h.domain → new.slot ≡ h.slot →
+pub IsSound-with_value : {domains : Slots} {regions : Slab Held} → IsSound domains regions → (k : ℕ) (h new : Held) → get regions k ≡ Some h → new.domain ≡ h.domain → new.slot ≡ h.slot →
     new.region.base ≡ h.region.base → length new.region.octets ≡ length h.region.octets → IsSound domains (with_value regions k new)
-IsSound-with_value {A} {domains} {regions} sound k h new held domain slot base len = record {
+IsSound-with_value {domains} {regions} sound k h new held domain slot base len = record {
   all_numbers = sound.all_numbers;
   no_zero = sound.no_zero;
   linked = λ d i j link.
@@ -245,57 +246,57 @@ put-nothing table stag to =
 
 -- ---- slots and the slab change together
 
-pub held_at : {A : Type 0} {domains : Slots A} {regions : Slab Held} → IsSound domains regions → (stag : Stag) (k : ℕ) → link_of domains stag ≡ Some k → IsHeldFor regions k stag.domain stag.slot
-held_at {A} {domains} {regions} sound stag k link = sound.linked stag.domain stag.slot k (link_of_slot domains stag k link).1
+pub held_at : {domains : Slots} {regions : Slab Held} → IsSound domains regions → (stag : Stag) (k : ℕ) → link_of domains stag ≡ Some k → IsHeldFor regions k stag.domain stag.slot
+held_at {domains} {regions} sound stag k link = sound.linked stag.domain stag.slot k (link_of_slot domains stag k link).1
 
 -- the slab has the same values
-pub IsSound-same_get : {A : Type 0} {domains : Slots A} {old new : Slab Held} → IsSound domains old → ((k : ℕ) → get new k ≡ get old k) → IsSound domains new
-IsSound-same_get {A} sound same = record {
+pub IsSound-same_get : {domains : Slots} {old new : Slab Held} → IsSound domains old → ((k : ℕ) → get new k ≡ get old k) → IsSound domains new
+IsSound-same_get sound same = record {
   all_numbers = sound.all_numbers;
   no_zero = sound.no_zero;
   linked = λ d i k link. let old = sound.linked d i k link in record { region = old.region; held = same k ∙ old.held; limits = old.limits };
   few = sound.few;
 }
 
-pub table_of-same_get : {A : Type 0} (domains : Slots A) (old new : Slab Held) → ((k : ℕ) → get new k ≡ get old k) → table_of domains new ≡ table_of domains old
-table_of-same_get {A} domains old new same =
+pub table_of-same_get : (domains : Slots) (old new : Slab Held) → ((k : ℕ) → get new k ≡ get old k) → table_of domains new ≡ table_of domains old
+table_of-same_get domains old new same =
     map-same (states_of old) (states_of new) domains None (λ j l. same_states old new (get_or domains j None) (λ m k e. same k))
 
-slots_in-set_same : {A : Type 0} (domains : Slots A) (d : ℕ) (v : Vec Slot A) → d < length domains → slots_in (set domains d (Some v)) d ≡ v.items
-slots_in-set_same {A} domains d v within = ap items_of (get_or-set_same domains d (Some v) None within)
+slots_in-set_same : (domains : Slots) (d : ℕ) (v : List Slot) → d < length domains → slots_in (set domains d (Some v)) d ≡ v
+slots_in-set_same domains d v within = ap (λ (o : Option (List Slot)). unwrap_or o []) (get_or-set_same domains d (Some v) None within)
 
-slots_in-set_other : {A : Type 0} (domains : Slots A) (d j : ℕ) (v : Vec Slot A) → j ≢ d → slots_in (set domains d (Some v)) j ≡ slots_in domains j
-slots_in-set_other {A} domains d j v ne = ap items_of (get_or-set_other domains d j (Some v) None ne)
+slots_in-set_other : (domains : Slots) (d j : ℕ) (v : List Slot) → j ≢ d → slots_in (set domains d (Some v)) j ≡ slots_in domains j
+slots_in-set_other domains d j v ne = ap (λ (o : Option (List Slot)). unwrap_or o []) (get_or-set_other domains d j (Some v) None ne)
 
 -- the slots of each domain after a change of one domain's
-pub slots_in-sets : {A : Type 0} {old new : Slots A} {d : ℕ} {items : List Slot} → SetsSlots old new d items → d < length old → slots_in new d ≡ items
-slots_in-sets {A} {old} {new} {d} sets within = ap (λ ds. slots_in ds d) sets.after ∙ slots_in-set_same old d sets.slots within ∙ sets.are
+pub slots_in-sets : {old new : Slots} {d : ℕ} {items : List Slot} → SetsSlots old new d items → d < length old → slots_in new d ≡ items
+slots_in-sets {old} {new} {d} {items} sets within = ap (λ ds. slots_in ds d) sets.after ∙ slots_in-set_same old d items within
 
-pub slots_in-sets_other : {A : Type 0} {old new : Slots A} {d : ℕ} {items : List Slot} → SetsSlots old new d items → (j : ℕ) → j ≢ d → slots_in new j ≡ slots_in old j
-slots_in-sets_other {A} {old} {new} {d} sets j ne = ap (λ ds. slots_in ds j) sets.after ∙ slots_in-set_other old d j sets.slots ne
+pub slots_in-sets_other : {old new : Slots} {d : ℕ} {items : List Slot} → SetsSlots old new d items → (j : ℕ) → j ≢ d → slots_in new j ≡ slots_in old j
+slots_in-sets_other {old} {new} {d} {items} sets j ne = ap (λ ds. slots_in ds j) sets.after ∙ slots_in-set_other old d j items ne
 
-few_sets : {A : Type 0} {old new : Slots A} {d : ℕ} {items : List Slot} → ((j : ℕ) → length (slots_in old j) ≤ 1024) → d < length old → SetsSlots old new d items → length items ≤ 1024 → (j : ℕ) → length (slots_in new j) ≤ 1024
-few_sets {A} {old} {new} {d} {items} few within sets small j = elim (eqb_tells j d) [
+few_sets : {old new : Slots} {d : ℕ} {items : List Slot} → ((j : ℕ) → length (slots_in old j) ≤ 1024) → d < length old → SetsSlots old new d items → length items ≤ 1024 → (j : ℕ) → length (slots_in new j) ≤ 1024
+few_sets {old} {new} {d} {items} few within sets small j = elim (eqb_tells j d) [
   | inl here ↦ subst (λ (ss : List Slot). length ss ≤ 1024) (sym (ap (slots_in new) here.1 ∙ slots_in-sets sets within)) small
   | inr other ↦ subst (λ (ss : List Slot). length ss ≤ 1024) (sym (slots_in-sets_other sets j other.1)) (few j)
 ]
 
-length-sets : {A : Type 0} {old new : Slots A} {d : ℕ} {items : List Slot} → SetsSlots old new d items → length new ≡ length old
-length-sets {A} {old} {new} {d} sets = ap length sets.after ∙ length-set old d (Some sets.slots)
+length-sets : {old new : Slots} {d : ℕ} {items : List Slot} → SetsSlots old new d items → length new ≡ length old
+length-sets {old} {new} {d} {items} sets = ap length sets.after ∙ length-set old d (Some items)
 
-no_zero-sets : {A : Type 0} {old new : Slots A} {d : ℕ} {items : List Slot} → get_or old 0 None ≡ None → SetsSlots old new d items → 0 ≢ d → get_or new 0 None ≡ None
-no_zero-sets {A} {old} {new} {d} none sets ne = ap (λ ds. get_or ds 0 None) sets.after ∙ get_or-set_other old d 0 (Some sets.slots) None ne ∙ none
+no_zero-sets : {old new : Slots} {d : ℕ} {items : List Slot} → get_or old 0 None ≡ None → SetsSlots old new d items → 0 ≢ d → get_or new 0 None ≡ None
+no_zero-sets {old} {new} {d} {items} none sets ne = ap (λ ds. get_or ds 0 None) sets.after ∙ get_or-set_other old d 0 (Some items) None ne ∙ none
 
 no_slots : {n i : ℕ} → n ≡ 0 → i < n → ⊥
 no_slots none within = omega (arith, none, within)
 
 -- a slot is set: its region is in the slab, and the regions of the others stay
-pub IsSound-set_slot : {A : Type 0} {old new : Slots A} {regions after : Slab Held} → IsSound old regions → (d i : ℕ) (s : Slot) → SetsSlots old new d (set (slots_in old d) i s) → i < length (slots_in old d) → SameElsewhere old regions after d i → ((k : ℕ) → s.at ≡ Some k → IsHeldFor after k d i) → IsSound new after
-IsSound-set_slot {A} {old} {new} {regions} {after} sound d i s sets within same held =
+pub IsSound-set_slot : {old new : Slots} {regions after : Slab Held} → IsSound old regions → (d i : ℕ) (s : Slot) → SetsSlots old new d (set (slots_in old d) i s) → i < length (slots_in old d) → SameElsewhere old regions after d i → ((k : ℕ) → s.at ≡ Some k → IsHeldFor after k d i) → IsSound new after
+IsSound-set_slot {old} {new} {regions} {after} sound d i s sets within same held =
     let moved = λ (j m k : ℕ) (ne : (j ≡ d) → (m ≡ i) → ⊥) (link : link_at old j m ≡ Some k). let r = sound.linked j m k link in let p : IsHeldFor after k j m = record { region = r.region; held = same j m k ne link ∙ r.held; limits = r.limits } in p in
     record {
       all_numbers = length-sets sets ∙ sound.all_numbers;
-      no_zero = no_zero-sets sound.no_zero sets (λ e. no_slots (ap (λ d. length (slots_in old d)) (sym e) ∙ ap (λ o. length (items_of o)) sound.no_zero) within);
+      no_zero = no_zero-sets sound.no_zero sets (λ e. no_slots (ap (λ d. length (slots_in old d)) (sym e) ∙ ap (λ (o : Option (List Slot)). length (unwrap_or o [])) sound.no_zero) within);
       linked = λ j m k link. elim (eqb_tells j d) [
         | inr other ↦ moved j m k (λ e _. other.1 e) (ap (λ (ss : List Slot). (get_or ss m free).at) (sym (slots_in-sets_other sets j other.1)) ∙ link)
         | inl here ↦
@@ -313,40 +314,36 @@ IsSound-set_slot {A} {old} {new} {regions} {after} sound d i s sets within same 
     }
 
 -- a slot is set, as the table tells it
-pub table_of-set_slot : {A : Type 0} (old new : Slots A) (regions after : Slab Held) (d i : ℕ) (s : Slot) → SetsSlots old new d (set (slots_in old d) i s) → SameElsewhere old regions after d i → table_of new after ≡ with_slot (table_of old regions) d i (state_of after s)
-table_of-set_slot {A} old new regions after d i s sets same =
-    ap (λ ds. table_of ds after) sets.after ∙ table_of-changed old regions after d i sets.slots s sets.are same
+pub table_of-set_slot : (old new : Slots) (regions after : Slab Held) (d i : ℕ) (s : Slot) → SetsSlots old new d (set (slots_in old d) i s) → SameElsewhere old regions after d i → table_of new after ≡ with_slot (table_of old regions) d i (state_of after s)
+table_of-set_slot old new regions after d i s sets same =
+    ap (λ ds. table_of ds after) sets.after ∙ table_of-changed old regions after d i (set (slots_in old d) i s) s refl same
 
 -- the slab without the region that the STag names has the others
-pub same_after_removal : {A : Type 0} {domains : Slots A} {regions after : Slab Held} → IsSound domains regions → (stag : Stag) (k : ℕ) → link_of domains stag ≡ Some k → Updates regions after k None → SameElsewhere domains regions after stag.domain stag.slot
-same_after_removal {A} {domains} sound stag k link updates j m l elsewhere e =
+pub same_after_removal : {domains : Slots} {regions after : Slab Held} → IsSound domains regions → (stag : Stag) (k : ℕ) → link_of domains stag ≡ Some k → Updates regions after k None → SameElsewhere domains regions after stag.domain stag.slot
+same_after_removal {domains} sound stag k link updates j m l elsewhere e =
     updates.others l (λ (same : l ≡ k). let two = link_unique sound stag.domain stag.slot j m k (link_of_slot domains stag k link).1 (e ∙ ap Some same) in elsewhere two.0 two.1)
 
 -- a slot that an STag names is there
-pub slot_within : {A : Type 0} (domains : Slots A) (stag : Stag) (k : ℕ) → link_of domains stag ≡ Some k → stag.slot < length (slots_in domains stag.domain)
-slot_within {A} domains stag k link = elim (cases_lt stag.slot (length (slots_in domains stag.domain))) [
+pub slot_within : (domains : Slots) (stag : Stag) (k : ℕ) → link_of domains stag ≡ Some k → stag.slot < length (slots_in domains stag.domain)
+slot_within domains stag k link = elim (cases_lt stag.slot (length (slots_in domains stag.domain))) [
   | inl within ↦ within
   | inr past ↦ absurd (none-some k (sym (ap (λ (s : Slot). s.at) (get_or_past (slots_in domains stag.domain) stag.slot free past)) ∙ (link_of_slot domains stag k link).1))
 ]
 
--- where the code found the region, by what the tables of slots are read as
-pub found_at : {A : Type 0} {read domains : Slots A} {found : Option ℕ} {k : ℕ} (stag : Stag) → read ≡ domains → found ≡ link_of read stag → found ≡ Some k → link_of domains stag ≡ Some k
-found_at {A} {read} {domains} {found} {k} stag same link is = ap (λ ds. link_of ds stag) (sym same) ∙ sym link ∙ is
-
 -- where the code found no region, the table has none
-pub region_at-none : {A : Type 0} {read : Slots A} {table : Table} {found : Option ℕ} (domains : Slots A) (regions : Slab Held) (stag : Stag) → read ≡ domains → found ≡ link_of read stag → found ≡ None → table_of domains regions ≡ table → region_at table stag ≡ None
-region_at-none domains regions stag same link is view =
-    ap (λ t. region_at t stag) (sym view) ∙ region_at-table_of domains regions stag ∙ ap (region_in regions) (ap (λ ds. link_of ds stag) (sym same) ∙ sym link ∙ is)
+pub region_at-none : {table : Table} {found : Option ℕ} (domains : Slots) (regions : Slab Held) (stag : Stag) → found ≡ link_of domains stag → found ≡ None → table_of domains regions ≡ table → region_at table stag ≡ None
+region_at-none domains regions stag link is view =
+    ap (λ t. region_at t stag) (sym view) ∙ region_at-table_of domains regions stag ∙ ap (region_in regions) (sym link ∙ is)
 
 some_place : (regions : Slab Held) (at : Option ℕ) → IsSome (region_in regions at) → IsSome at
 some_place regions None some = some
 some_place regions (Some k) some = refl
 
 -- where the table has a region, the code finds it
-pub found_where : {A : Type 0} {read : Slots A} {table : Table} {found : Option ℕ} (domains : Slots A) (regions : Slab Held) (stag : Stag) → read ≡ domains → found ≡ link_of read stag → table_of domains regions ≡ table → IsSome (region_at table stag) → IsSome found
-found_where domains regions stag same link view some =
+pub found_where : {table : Table} {found : Option ℕ} (domains : Slots) (regions : Slab Held) (stag : Stag) → found ≡ link_of domains stag → table_of domains regions ≡ table → IsSome (region_at table stag) → IsSome found
+found_where domains regions stag link view some =
     let there : IsSome (region_in regions (link_of domains stag)) = subst IsSome (ap (λ t. region_at t stag) (sym view) ∙ region_at-table_of domains regions stag) some in
-    subst IsSome (ap (λ ds. link_of ds stag) (sym same) ∙ sym link) (some_place regions (link_of domains stag) there)
+    subst IsSome (sym link) (some_place regions (link_of domains stag) there)
 
 -- a part of a region lies in one
 pub some_within : (table : Table) (stag : Stag) (to n : ℕ) → IsWithin table stag to n → IsSome (region_at table stag)
@@ -361,48 +358,48 @@ region_copied None = refl
 region_copied (Some s) = refl
 
 -- what the code looked up is the region that the STag names
-pub region_seen : {A : Type 0} {table : Table} (domains : Slots A) (regions : Slab Held) (stag : Stag) (k : ℕ) (o : Option (Bor Held)) → link_of domains stag ≡ Some k → option_copied o ≡ get regions k → table_of domains regions ≡ table → option_map (λ s. s.now.region) o ≡ region_at table stag
+pub region_seen : {table : Table} (domains : Slots) (regions : Slab Held) (stag : Stag) (k : ℕ) (o : Option (Bor Held)) → link_of domains stag ≡ Some k → option_copied o ≡ get regions k → table_of domains regions ≡ table → option_map (λ s. s.now.region) o ≡ region_at table stag
 region_seen domains regions stag k o link seen view =
     region_copied o ∙ ap (option_map (λ h. h.region)) seen ∙ ap (region_in regions) (sym link) ∙ sym (region_at-table_of domains regions stag) ∙ ap (λ t. region_at t stag) view
 
 -- the slab has a region where the code found one
-pub stored_at : {A : Type 0} {domains : Slots A} {regions : Slab Held} → IsSound domains regions → (stag : Stag) (k : ℕ) → link_of domains stag ≡ Some k → ContainsKey regions k
+pub stored_at : {domains : Slots} {regions : Slab Held} → IsSound domains regions → (stag : Stag) (k : ℕ) → link_of domains stag ≡ Some k → ContainsKey regions k
 stored_at sound stag k link = ap is_some (held_at sound stag k link).held
 
-pub octets-held : {A : Type 0} {table : Table} (domains : Slots A) (regions : Slab Held) (stag : Stag) (k : ℕ) (h : Held) → link_of domains stag ≡ Some k → get regions k ≡ Some h → table_of domains regions ≡ table
+pub octets-held : {table : Table} (domains : Slots) (regions : Slab Held) (stag : Stag) (k : ℕ) (h : Held) → link_of domains stag ≡ Some k → get regions k ≡ Some h → table_of domains regions ≡ table
     → Some h.region.octets ≡ option_map (λ r. r.octets) (region_at table stag)
-octets-held {A} {table} domains regions stag k h link held view =
+octets-held {table} domains regions stag k h link held view =
     sym (ap (option_map (λ (r : Region). r.octets)) (region_at-held domains regions stag k h link held)) ∙ ap (λ t. option_map (λ (r : Region). r.octets) (region_at t stag)) view
 
-pub part-held : {A : Type 0} {table : Table} (domains : Slots A) (regions : Slab Held) (stag : Stag) (to n k : ℕ) (h : Held) → link_of domains stag ≡ Some k → get regions k ≡ Some h → table_of domains regions ≡ table
+pub part-held : {table : Table} (domains : Slots) (regions : Slab Held) (stag : Stag) (to n k : ℕ) (h : Held) → link_of domains stag ≡ Some k → get regions k ≡ Some h → table_of domains regions ≡ table
     → octets_from h.region to n ≡ octets_at table stag to n
-part-held {A} {table} domains regions stag to n k h link held view =
+part-held {table} domains regions stag to n k h link held view =
     sym (ap (λ o. option_map_or (λ r. octets_from r to n) o []) (region_at-held domains regions stag k h link held)) ∙ ap (λ t. octets_at t stag to n) view
 
 -- the region that the STag names is taken out, and its slot is free under the next key
-pub table_of-taken : {A : Type 0} {old new : Slots A} {regions after : Slab Held} {table : Table} → IsSound old regions → (stag : Stag) (k : ℕ) (h : Held) → link_of old stag ≡ Some k → get regions k ≡ Some h → Updates regions after k None
+pub table_of-taken : {old new : Slots} {regions after : Slab Held} {table : Table} → IsSound old regions → (stag : Stag) (k : ℕ) (h : Held) → link_of old stag ≡ Some k → get regions k ≡ Some h → Updates regions after k None
     → SetsSlots old new stag.domain (set (slots_in old stag.domain) stag.slot (record { key = (stag.key + 1) % 256; at = None })) → table_of old regions ≡ table → table_of new after ≡ deregistered table stag
-table_of-taken {A} {old} {new} {regions} {after} {table} sound stag k h link held updates sets view =
+table_of-taken {old} {new} {regions} {after} {table} sound stag k h link held updates sets view =
     table_of-set_slot old new regions after stag.domain stag.slot (record { key = (stag.key + 1) % 256; at = None }) sets (same_after_removal sound stag k link updates)
     ∙ sym (deregistered-found (table_of old regions) stag h.region (region_at-held old regions stag k h link held))
     ∙ ap (λ t. deregistered t stag) view
 
-pub IsSound-taken : {A : Type 0} {old new : Slots A} {regions after : Slab Held} → IsSound old regions → (stag : Stag) (k key : ℕ) → link_of old stag ≡ Some k → Updates regions after k None
+pub IsSound-taken : {old new : Slots} {regions after : Slab Held} → IsSound old regions → (stag : Stag) (k key : ℕ) → link_of old stag ≡ Some k → Updates regions after k None
     → SetsSlots old new stag.domain (set (slots_in old stag.domain) stag.slot (record { key = key; at = None })) → IsSound new after
-IsSound-taken {A} {old} sound stag k key link updates sets =
+IsSound-taken {old} sound stag k key link updates sets =
     IsSound-set_slot sound stag.domain stag.slot (record { key = key; at = None }) sets (slot_within old stag k link) (same_after_removal sound stag k link updates) (λ k e. absurd (none-some k e))
 
 -- the region that the STag names is changed, where its view was this
-pub changed-held : {A : Type 0} {domains : Slots A} {regions : Slab Held} {table : Table} → IsSound domains regions → (stag : Stag) (k : ℕ) (h new : Held) (change : Region → Region) → link_of domains stag ≡ Some k → get regions k ≡ Some h
+pub changed-held : {domains : Slots} {regions : Slab Held} {table : Table} → IsSound domains regions → (stag : Stag) (k : ℕ) (h new : Held) (change : Region → Region) → link_of domains stag ≡ Some k → get regions k ≡ Some h
     → new.region ≡ change h.region → table_of domains regions ≡ table → table_of domains (with_value regions k new) ≡ with_region table stag change
 changed-held sound stag k h new change link held is view = table_of-change sound stag k h new change link held is ∙ ap (λ t. with_region t stag change) view
 
 -- the region that the STag names is invalidated
-pub table_of-invalid : {A : Type 0} {domains : Slots A} {regions : Slab Held} {table : Table} → IsSound domains regions → (stag : Stag) (k : ℕ) (h seen : Held) → link_of domains stag ≡ Some k → get regions k ≡ Some h → seen ≡ h → table_of domains regions ≡ table
+pub table_of-invalid : {domains : Slots} {regions : Slab Held} {table : Table} → IsSound domains regions → (stag : Stag) (k : ℕ) (h seen : Held) → link_of domains stag ≡ Some k → get regions k ≡ Some h → seen ≡ h → table_of domains regions ≡ table
     → table_of domains (with_value regions k (record seen { region = made_invalid seen.region })) ≡ invalidated table stag
 table_of-invalid sound stag k h seen link held same view = changed-held sound stag k h (record seen { region = made_invalid seen.region }) made_invalid link held (ap (λ (x : Held). made_invalid x.region) same) view
 
-pub IsSound-validity : {A : Type 0} {domains : Slots A} {regions : Slab Held} → IsSound domains regions → (k : ℕ) (h seen : Held) (valid : Bool) → get regions k ≡ Some h → seen ≡ h
+pub IsSound-validity : {domains : Slots} {regions : Slab Held} → IsSound domains regions → (k : ℕ) (h seen : Held) (valid : Bool) → get regions k ≡ Some h → seen ≡ h
     → IsSound domains (with_value regions k (record seen { region = record seen.region { valid = valid } }))
 IsSound-validity sound k h seen valid held same =
     IsSound-with_value sound k h (record seen { region = record seen.region { valid = valid } }) held (ap (λ (x : Held). x.domain) same) (ap (λ (x : Held). x.slot) same) (ap (λ (x : Held). x.region.base) same) (ap (λ (x : Held). length x.region.octets) same)
@@ -410,59 +407,56 @@ IsSound-validity sound k h seen valid held same =
 -- ---- a domain is added, and a region
 
 -- a free slot of the code is one of the table
-free-state : {A : Type 0} {domains : Slots A} {regions : Slab Held} → IsSound domains regions → (d i : ℕ) → is_none (state_of regions (get_or (slots_in domains d) i free)).region ≡ is_free (get_or (slots_in domains d) i free)
-free-state {A} {domains} {regions} sound d i = go (link_at domains d i) refl
+free-state : {domains : Slots} {regions : Slab Held} → IsSound domains regions → (d i : ℕ) → is_none (state_of regions (get_or (slots_in domains d) i free)).region ≡ is_free (get_or (slots_in domains d) i free)
+free-state {domains} {regions} sound d i = go (link_at domains d i) refl
   where
     go : (o : Option ℕ) → link_at domains d i ≡ o → is_none (region_in regions o) ≡ is_none o
     go None e = refl
     go (Some k) e = ap (λ (h : Option Held). is_none (option_map (λ x. x.region) h)) (sound.linked d i k e).held
 
-pub free_slot-table_of : {A : Type 0} {domains : Slots A} {regions : Slab Held} → IsSound domains regions → (d : ℕ) → free_slot (slots_of (table_of domains regions) d) ≡ position_or_len is_free (slots_in domains d)
-free_slot-table_of {A} {domains} {regions} sound d =
+pub free_slot-table_of : {domains : Slots} {regions : Slab Held} → IsSound domains regions → (d : ℕ) → free_slot (slots_of (table_of domains regions) d) ≡ position_or_len is_free (slots_in domains d)
+free_slot-table_of {domains} {regions} sound d =
     ap free_slot (slots_of-table_of domains regions d)
     ∙ position_or_len-map (state_of regions) is_free (λ s. is_none s.region) (slots_in domains d) free (λ j l. free-state sound d j)
 
-is_some-states : {A : Type 0} (regions : Slab Held) (o : Option (Vec Slot A)) → is_some (states_of regions o) ≡ is_some o
-is_some-states {A} regions None = refl
-is_some-states {A} regions (Some v) = refl
+is_some-states : (regions : Slab Held) (o : Option (List Slot)) → is_some (states_of regions o) ≡ is_some o
+is_some-states regions None = refl
+is_some-states regions (Some v) = refl
 
-pub is_added-table_of : {A : Type 0} (domains : Slots A) (regions : Slab Held) (d : ℕ) → is_added (table_of domains regions) d ≡ is_some (get_or domains d None)
-is_added-table_of {A} domains regions d = ap is_some (get_or-map (states_of regions) domains d None) ∙ is_some-states regions (get_or domains d None)
+pub is_added-table_of : (domains : Slots) (regions : Slab Held) (d : ℕ) → is_added (table_of domains regions) d ≡ is_some (get_or domains d None)
+is_added-table_of domains regions d = ap is_some (get_or-map (states_of regions) domains d None) ∙ is_some-states regions (get_or domains d None)
 
 -- a domain gets an empty list of slots
-pub table_of-added : {A : Type 0} (domains : Slots A) (regions : Slab Held) (d : ℕ) (v : Vec Slot A) → v.items ≡ [] → table_of (set domains d (Some v)) regions ≡ added (table_of domains regions) d
-table_of-added {A} domains regions d v none =
-    map-set (states_of regions) domains d (Some v) ∙ ap (λ ss. set (table_of domains regions) d (Some (map (state_of regions) ss))) none
+pub table_of-added : (old new : Slots) (regions : Slab Held) (d : ℕ) → SetsSlots old new d [] → table_of new regions ≡ added (table_of old regions) d
+table_of-added old new regions d sets = ap (λ ds. table_of ds regions) sets.after ∙ map-set (states_of regions) old d (Some [])
 
-pub IsSound-added : {A : Type 0} {domains : Slots A} {regions : Slab Held} → IsSound domains regions → (d : ℕ) (v : Vec Slot A) → d ≢ 0 → d < length domains → v.items ≡ [] → IsSound (set domains d (Some v)) regions
-IsSound-added {A} {domains} {regions} sound d v ne within none =
-    let sets : SetsSlots domains (set domains d (Some v)) d [] = record { slots = v; are = none; after = refl } in
-    record {
-      all_numbers = length-sets sets ∙ sound.all_numbers;
-      no_zero = no_zero-sets sound.no_zero sets (λ e. ne (sym e));
-      linked = λ j m k link. elim (eqb_tells j d) [
-        | inr other ↦ sound.linked j m k (ap (λ (ss : List Slot). (get_or ss m free).at) (sym (slots_in-sets_other sets j other.1)) ∙ link)
-        | inl here ↦ absurd (none-some k (sym (ap (λ j. link_at (set domains d (Some v)) j m) here.1 ∙ ap (λ (ss : List Slot). (get_or ss m free).at) (slots_in-sets sets within)) ∙ link))
-      ];
-      few = few_sets sound.few within sets (omega arith);
-    }
+pub IsSound-added : {old new : Slots} {regions : Slab Held} → IsSound old regions → (d : ℕ) → d ≢ 0 → d < length old → SetsSlots old new d [] → IsSound new regions
+IsSound-added {old} {new} {regions} sound d ne within sets = record {
+  all_numbers = length-sets sets ∙ sound.all_numbers;
+  no_zero = no_zero-sets sound.no_zero sets (λ e. ne (sym e));
+  linked = λ j m k link. elim (eqb_tells j d) [
+    | inr other ↦ sound.linked j m k (ap (λ (ss : List Slot). (get_or ss m free).at) (sym (slots_in-sets_other sets j other.1)) ∙ link)
+    | inl here ↦ absurd (none-some k (sym (ap (λ j. link_at new j m) here.1 ∙ ap (λ (ss : List Slot). (get_or ss m free).at) (slots_in-sets sets within)) ∙ link))
+  ];
+  few = few_sets sound.few within sets (omega arith);
+}
 
 -- why a domain is not added, by what the code read of it
-pub domain_refusal-read : {A : Type 0} (domains : Slots A) (regions : Slab Held) (table : Table) (d : ℕ) (o : Option (Vec Slot A)) (b : Bool) → d ≢ 0 → d < length domains → o ≡ get_or domains d o → b ≡ is_some o → table_of domains regions ≡ table
-    → (if b then Some DomainTaken else None) ≡ domain_refusal table d
-domain_refusal-read {A} domains regions table d o b ne within read is view =
-    let added : b ≡ is_added table d = is ∙ ap is_some (read ∙ get_or_default domains d o None within) ∙ sym (is_added-table_of domains regions d) ∙ ap (λ t. is_added t d) view in
+pub domain_refusal-read : (domains : Slots) (regions : Slab Held) (table : Table) (d : ℕ) (b : Bool) → d ≢ 0 → b ≡ is_some (get_or domains d None) → table_of domains regions ≡ table
+    → domain_refusal table d ≡ (if b then Some DomainTaken else None)
+domain_refusal-read domains regions table d b ne is view =
+    let added : b ≡ is_added table d = is ∙ sym (is_added-table_of domains regions d) ∙ ap (λ t. is_added t d) view in
     let some : (d == 0) ≡ false = elim (eqb_tells d 0) [ inl same ↦ absurd (ne same.1) | inr other ↦ other.0 ] in
-    (λ i. if (sym some i) then Some BadDomain else (if added i then Some DomainTaken else None))
+    (λ i. if (some i) then Some BadDomain else (if (sym added i) then Some DomainTaken else None))
 
 -- what the code finds of a domain's lowest free slot
-free_known : {A : Type 0} (o : Option (Vec Slot A)) (slot : ℕ) → option_map (λ v. position_or_len is_free v.items) o ≡ Some slot → (is_some o ≡ true) × (position_or_len is_free (items_of o) ≡ slot)
-free_known {A} None slot e = absurd (none-some slot e)
-free_known {A} (Some v) slot e = (refl, same_Some _ _ e)
+free_known : (o : Option (List Slot)) (slot : ℕ) → option_map (position_or_len is_free) o ≡ Some slot → (is_some o ≡ true) × (position_or_len is_free (unwrap_or o []) ≡ slot)
+free_known None slot e = absurd (none-some slot e)
+free_known (Some v) slot e = (refl, same_Some _ _ e)
 
-pub place_known : {A : Type 0} {domains : Slots A} {regions : Slab Held} → IsSound domains regions → (d slot : ℕ) → option_map (λ v. position_or_len is_free v.items) (get_or domains d None) ≡ Some slot →
+pub place_known : {domains : Slots} {regions : Slab Held} → IsSound domains regions → (d slot : ℕ) → option_map (position_or_len is_free) (get_or domains d None) ≡ Some slot →
     (is_added (table_of domains regions) d ≡ true) × (free_slot (slots_of (table_of domains regions) d) ≡ slot)
-place_known {A} {domains} {regions} sound d slot e =
+place_known {domains} {regions} sound d slot e =
     let known = free_known (get_or domains d None) slot e in
     (is_added-table_of domains regions d ∙ known.0, free_slot-table_of sound d ∙ known.1)
 
@@ -481,8 +475,8 @@ pub register_refusal-absent : (table : Table) (d base len : ℕ) → is_added ta
 register_refusal-absent table d base len absent = ap (λ b. if not b then Some NoDomain else refusal_at (free_slot (slots_of table d)) base len) absent
 
 -- the links stay
-pub IsSound-same_links : {A : Type 0} {old new : Slots A} {regions : Slab Held} → IsSound old regions → (d : ℕ) (items : List Slot) → IsTrue (is_some (get_or old d None)) → SetsSlots old new d items → length items ≤ 1024 → ((m : ℕ) → get_or items m free ≡ get_or (slots_in old d) m free) → IsSound new regions
-IsSound-same_links {A} {old} {new} {regions} sound d items there sets small same = let within = domain_added old d there in record {
+pub IsSound-same_links : {old new : Slots} {regions : Slab Held} → IsSound old regions → (d : ℕ) (items : List Slot) → IsTrue (is_some (get_or old d None)) → SetsSlots old new d items → length items ≤ 1024 → ((m : ℕ) → get_or items m free ≡ get_or (slots_in old d) m free) → IsSound new regions
+IsSound-same_links {old} {new} {regions} sound d items there sets small same = let within = domain_added old d there in record {
   all_numbers = length-sets sets ∙ sound.all_numbers;
   no_zero = no_zero-sets sound.no_zero sets (λ e. not_none (get_or old d None) (ap (λ d. get_or old d None) (sym e) ∙ sound.no_zero) there);
   linked = λ j m k link. elim (eqb_tells j d) [
@@ -494,21 +488,9 @@ IsSound-same_links {A} {old} {new} {regions} sound d items there sets small same
   few = few_sets sound.few within sets small;
 }
 
-pub table_of-sets : {A : Type 0} (old new : Slots A) (regions : Slab Held) (d : ℕ) (items : List Slot) → SetsSlots old new d items → table_of new regions ≡ set (table_of old regions) d (Some (map (state_of regions) items))
-table_of-sets {A} old new regions d items sets =
-    ap (λ ds. table_of ds regions) sets.after ∙ map-set (states_of regions) old d (Some sets.slots) ∙ ap (λ ss. set (table_of old regions) d (Some (map (state_of regions) ss))) sets.are
-
-some_slots : (o : Option (List SlotState)) → is_some o ≡ true → Some (unwrap_or o []) ≡ o
-some_slots None e = cc
-some_slots (Some ss) e = refl
-
--- the slots are set to what they are
-pub table_of-sets_same : {A : Type 0} (old new : Slots A) (regions : Slab Held) (d : ℕ) → SetsSlots old new d (slots_in old d) → is_added (table_of old regions) d ≡ true → table_of new regions ≡ table_of old regions
-table_of-sets_same {A} old new regions d sets there =
-    table_of-sets old new regions d (slots_in old d) sets
-    ∙ ap (λ ss. set (table_of old regions) d (Some ss)) (sym (slots_of-table_of old regions d))
-    ∙ ap (set (table_of old regions) d) (some_slots (get_or (table_of old regions) d None) there)
-    ∙ set-get_or (table_of old regions) d None
+pub table_of-sets : (old new : Slots) (regions : Slab Held) (d : ℕ) (items : List Slot) → SetsSlots old new d items → table_of new regions ≡ set (table_of old regions) d (Some (map (state_of regions) items))
+table_of-sets old new regions d items sets =
+    ap (λ ds. table_of ds regions) sets.after ∙ map-set (states_of regions) old d (Some items)
 
 -- room among the slots is room among the table's
 states-with_room : (regions : Slab Held) (slots : List Slot) (i : ℕ) → free_slot (map (state_of regions) slots) ≡ i → map (state_of regions) (with_room_at slots i) ≡ with_room (map (state_of regions) slots)
@@ -518,11 +500,11 @@ states-with_room regions slots i first =
     ∙ ap (λ n. cond (nat_lt n (length (map (state_of regions) slots))) (map (state_of regions) slots) (map (state_of regions) slots ++ unused ∷ [])) (sym first)
 
 -- a region is stored where no slot links to, and a free slot gets it
-pub table_of-registered : {A : Type 0} (old mid new : Slots A) (before after : Slab Held) (d i k key : ℕ) (h : Held) → IsSound old before → d < length old → free_slot (slots_of (table_of old before) d) ≡ i →
+pub table_of-registered : (old mid new : Slots) (before after : Slab Held) (d i k key : ℕ) (h : Held) → IsSound old before → d < length old → free_slot (slots_of (table_of old before) d) ≡ i →
     SetsSlots old mid d (with_room_at (slots_in old d) i) → SetsSlots mid new d (set (slots_in mid d) i (record { key = key; at = Some k })) →
     SameElsewhere mid before after d i → get after k ≡ Some h → key ≡ (get_or (slots_in old d) i free).key →
     table_of new after ≡ registered (table_of old before) d h.region
-table_of-registered {A} old mid new before after d i k key h sound within first room sets same held is =
+table_of-registered old mid new before after d i k key h sound within first room sets same held is =
     let table = table_of old before in
     let seen : free_slot (map (state_of before) (slots_in old d)) ≡ i = ap free_slot (sym (slots_of-table_of old before d)) ∙ first in
     let middle : table_of mid before ≡ set table d (Some (map (state_of before) (with_room_at (slots_in old d) i))) = table_of-sets old mid before d (with_room_at (slots_in old d) i) room in
@@ -542,24 +524,24 @@ table_of-registered {A} old mid new before after d i k key h sound within first 
     ∙ ap (λ n. set table d (Some (set (with_room (slots_of table d)) n (record { key = (get_or (slots_of table d) n unused).key; region = Some h.region })))) (sym first)
 
 -- no slot links to a vacant key
-pub same_after_insert : {A : Type 0} {domains : Slots A} {regions after : Slab Held} → IsSound domains regions → (k d i : ℕ) (h : Held) → get regions k ≡ None → Updates regions after k (Some h) → SameElsewhere domains regions after d i
-same_after_insert {A} {domains} {regions} sound k d i h vacant updates j m l elsewhere link =
+pub same_after_insert : {domains : Slots} {regions after : Slab Held} → IsSound domains regions → (k d i : ℕ) (h : Held) → get regions k ≡ None → Updates regions after k (Some h) → SameElsewhere domains regions after d i
+same_after_insert {domains} {regions} sound k d i h vacant updates j m l elsewhere link =
     updates.others l (λ (same : l ≡ k). let r = sound.linked j m l link in none-some _ (sym vacant ∙ ap (get regions) (sym same) ∙ r.held))
 
 -- ---- limits
 
-limits_in : {A : Type 0} {domains : Slots A} {regions : Slab Held} → IsSound domains regions → (d i : ℕ) (o : Option ℕ) → link_at domains d i ≡ o → IfSome (region_in regions o) (λ r. IsWithinLimits r.base (length r.octets))
-limits_in {A} sound d i None e = tt
-limits_in {A} {domains} {regions} sound d i (Some k) e =
+limits_in : {domains : Slots} {regions : Slab Held} → IsSound domains regions → (d i : ℕ) (o : Option ℕ) → link_at domains d i ≡ o → IfSome (region_in regions o) (λ r. IsWithinLimits r.base (length r.octets))
+limits_in sound d i None e = tt
+limits_in {domains} {regions} sound d i (Some k) e =
     let h = sound.linked d i k e in
     subst (λ (o : Option Held). IfSome (option_map (λ x. x.region) o) (λ r. IsWithinLimits r.base (length r.octets))) (sym h.held) h.limits
 
-limits_under : {A : Type 0} {domains : Slots A} {regions : Slab Held} → IsSound domains regions → (d i : ℕ) (b : Bool) → IfSome (region_in regions (cond b (link_at domains d i) None)) (λ r. IsWithinLimits r.base (length r.octets))
-limits_under {A} sound d i true = limits_in sound d i _ refl
-limits_under {A} sound d i false = tt
+limits_under : {domains : Slots} {regions : Slab Held} → IsSound domains regions → (d i : ℕ) (b : Bool) → IfSome (region_in regions (cond b (link_at domains d i) None)) (λ r. IsWithinLimits r.base (length r.octets))
+limits_under sound d i true = limits_in sound d i _ refl
+limits_under sound d i false = tt
 
-pub HoldsLimits-table_of : {A : Type 0} {domains : Slots A} {regions : Slab Held} → IsSound domains regions → HoldsLimits (table_of domains regions)
-HoldsLimits-table_of {A} {domains} {regions} sound = record {
+pub HoldsLimits-table_of : {domains : Slots} {regions : Slab Held} → IsSound domains regions → HoldsLimits (table_of domains regions)
+HoldsLimits-table_of {domains} {regions} sound = record {
   domains = length-map domains (states_of regions) ∙ sound.all_numbers;
   no_zero = get_or-map (states_of regions) domains 0 None ∙ ap (states_of regions) sound.no_zero;
   slots = λ d. subst (λ (n : ℕ). n ≤ 1024) (sym (ap length (slots_of-table_of domains regions d) ∙ length-map (slots_in domains d) (state_of regions))) (sound.few d);

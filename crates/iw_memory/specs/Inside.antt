@@ -1,5 +1,5 @@
 -- What the fields of a `Memory` mean, and what they keep.
-use Rattle.std.specs.Prelude.{◌≡◌, ◌≤◌, ℕ, ◌==◌, if◌then◌else◌, List, [], ◌∷◌, ◌++◌, slice_set, nat_lt, is_none, Bool, length, Option, Some, None, Vec, map, slice_index_or, unwrap_or}
+use Rattle.std.specs.Prelude.{◌≡◌, ◌≤◌, ℕ, ◌-◌, ◌==◌, if◌then◌else◌, List, [], ◌∷◌, ◌++◌, slice_set, nat_lt, is_none, Bool, length, Option, Some, None, Vec, map, replicate, slice_index_or, unwrap_or}
 use Rattle.std.specs.Option.{option_map, option_and_then}
 use Rattle.slab.specs.Slab.{Slab, get}
 use Rattle.iw_octets.specs.declared.stag.Stag.{Stag}
@@ -9,9 +9,20 @@ use Rattle.iw_memory.specs.Held.{Held}
 use Rattle.iw_memory.specs.Part.{Part, SlotState}
 use Rattle.iw_memory.specs.Table.{Table}
 
--- the slots, as lists
-abbrev pub Slots : Type 0 → Type 0
-Slots A = List (Option (Vec Slot A))
+-- at each domain number, the slots of the domain; nothing where it was not added
+abbrev pub Slots : Type 0
+Slots = List (Option (List Slot))
+
+abbrev pub as_list : {A : Type 0} → Option (Vec Slot A) → Option (List Slot)
+as_list {A} slots = option_map (λ v. v.items) slots
+
+-- the domains past the last place were not added
+abbrev pub all_places : {A : Type 0} → List (Option (Vec Slot A)) → Slots
+all_places {A} places = map as_list places ++ replicate (256 - length places) None
+
+-- the places of no domain
+unfoldable pub no_places : Slots
+no_places = replicate 256 None
 
 abbrev pub region_in : Slab Held → Option ℕ → Option Region
 region_in regions at = option_and_then (λ k. option_map (λ h. h.region) (get regions k)) at
@@ -19,25 +30,25 @@ region_in regions at = option_and_then (λ k. option_map (λ h. h.region) (get r
 abbrev pub state_of : Slab Held → Slot → SlotState
 state_of regions s = record { key = s.key; region = region_in regions s.at }
 
-abbrev pub states_of : {A : Type 0} → Slab Held → Option (Vec Slot A) → Part
-states_of {A} regions slots = option_map (λ v. map (state_of regions) v.items) slots
+abbrev pub states_of : Slab Held → Option (List Slot) → Part
+states_of regions slots = option_map (map (state_of regions)) slots
 
-abbrev pub table_of : {A : Type 0} → Slots A → Slab Held → Table
-table_of {A} domains regions = map (states_of regions) domains
+abbrev pub table_of : Slots → Slab Held → Table
+table_of domains regions = map (states_of regions) domains
 
-abbrev pub slots_in : {A : Type 0} → Slots A → ℕ → List Slot
-slots_in {A} domains d = unwrap_or (option_map (λ v. v.items) (slice_index_or domains d None)) []
+abbrev pub slots_in : Slots → ℕ → List Slot
+slots_in domains d = unwrap_or (slice_index_or domains d None) []
 
 abbrev pub free : Slot
 free = record { key = 0; at = None }
 
 -- the key in the slab of the region in a slot
-abbrev pub link_at : {A : Type 0} → Slots A → ℕ → ℕ → Option ℕ
-link_at {A} domains d i = (slice_index_or (slots_in domains d) i free).at
+abbrev pub link_at : Slots → ℕ → ℕ → Option ℕ
+link_at domains d i = (slice_index_or (slots_in domains d) i free).at
 
 -- the key in the slab of the region that the STag names
-abbrev pub link_of : {A : Type 0} → Slots A → Stag → Option ℕ
-link_of {A} domains stag =
+abbrev pub link_of : Slots → Stag → Option ℕ
+link_of domains stag =
     let s = slice_index_or (slots_in domains stag.domain) stag.slot free in if s.key == stag.key then s.at else None
 
 -- the slab holds a region of this slot, and the region is within its limits
@@ -46,13 +57,13 @@ pub record IsHeldFor (regions : Slab Held) (k d i : ℕ) : Type 0 where
   pub held : get regions k ≡ Some (record { domain = d; slot = i; region = region })
   pub limits : IsWithinLimits region.base (length region.octets)
 
-pub record IsSound {A : Type 0} (domains : Slots A) (regions : Slab Held) : Type 0 where
+pub record IsSound (domains : Slots) (regions : Slab Held) : Type 0 where
   pub all_numbers : length domains ≡ 256
   pub no_zero : slice_index_or domains 0 None ≡ None
   pub linked : (d i k : ℕ) → link_at domains d i ≡ Some k → IsHeldFor regions k d i
   pub few : (d : ℕ) → length (slots_in domains d) ≤ 1024
 
-pub record Keeps {A : Type 0} (domains : Slots A) (regions : Slab Held) (nothing : List ℕ) : Type 0 where
+pub record Keeps (domains : Slots) (regions : Slab Held) (nothing : List ℕ) : Type 0 where
   pub sound : IsSound domains regions
   pub no_octets : length nothing ≡ 0
 
@@ -64,7 +75,5 @@ abbrev pub with_room_at : List Slot → ℕ → List Slot
 with_room_at slots i = if nat_lt i (length slots) then slots else slots ++ free ∷ []
 
 -- the domain has these slots, and all else is equal
-pub record SetsSlots {A : Type 0} (old new : Slots A) (d : ℕ) (items : List Slot) : Type 0 where
-  pub slots : Vec Slot A
-  pub are : slots.items ≡ items
-  pub after : new ≡ slice_set old d (Some slots)
+pub record SetsSlots (old new : Slots) (d : ℕ) (items : List Slot) : Type 0 where
+  pub after : new ≡ slice_set old d (Some items)

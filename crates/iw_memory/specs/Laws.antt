@@ -1,27 +1,33 @@
 -- What may be said of the definitions, beside the calls.
-use Rattle.std.specs.Prelude.{◌≡◌, ◌≢◌, ◌↔◌, ◌⊎◌, ℕ, ◌+◌, ◌<◌, ◌^◌, ◌≤◌, IsTrue, IsSomeAnd, IfSome, List, [], length, Option, Some, None}
+use Rattle.std.specs.Prelude.{◌≡◌, ◌≢◌, ◌↔◌, ◌⊎◌, ℕ, ◌+◌, ◌<◌, ◌^◌, ◌≤◌, true, false, IsTrue, IsSomeAnd, IfSome, List, [], length, Option, Some, None}
 use Rattle.std.specs.Option.{option_map}
 use Rattle.iw_octets.specs.declared.stag.Stag.{Stag}
+use Rattle.iw_memory.specs.declared.peer.Peer.{Peer}
 use Rattle.iw_memory.specs.declared.rights.Right.{Right}
-use Rattle.iw_memory.specs.Region.{Region, facts_of, grants, Spans, region_with, made_invalid, IsWithinLimits}
-use Rattle.iw_memory.specs.Part.{Part, own_denial, own_invalidate_denial, own_domain_refusal, own_store_refusal, own_register_refusal, own_next_stag, own_region, own_changed, own_put, own_invalidated, own_deregistered, own_added, own_registered}
-use Rattle.iw_memory.specs.Table.{Table, part_of, slots_of, region_at, denial, invalidate_denial, domain_refusal, store_refusal, register_refusal, next_stag, with_region, put, invalidated, deregistered, added, registered}
+use Rattle.iw_memory.specs.Region.{Region, facts_of, in_domain, is_bound_to, is_in_scope, grants, Spans, region_with, made_invalid, retired_region, IsWithinLimits}
+use Rattle.iw_memory.specs.Part.{Part, own_denial_for, own_invalidate_denial_for, own_domain_refusal, own_store_refusal, own_register_refusal, own_next_stag, own_region, own_changed, own_put, own_invalidated, own_retired, own_deregistered, own_added, own_registered}
+use Rattle.iw_memory.specs.Table.{Table, part_of, slots_of, region_at, octets_at, denial_for, invalidate_denial_for, domain_refusal, store_refusal, register_refusal, next_stag, with_region, put, invalidated, retired, deregistered, added, registered}
 
--- a region serves n octets from `to` on for this right
-pub record Serves (r : Region) (to n : ℕ) (right : Right) : Type 0 where
+-- a region serves n octets from `to` on for this right to this stream of its domain
+pub record Serves (r : Region) (stream : Option ℕ) (to n : ℕ) (right : Right) : Type 0 where
+  pub in_scope : IsTrue (is_in_scope r.bound stream)
   pub valid : IsTrue r.valid
   pub no_wrap : to + n ≤ 2 ^ 64
   pub from_base : r.base ≤ to
   pub to_end : to + n ≤ r.base + length r.octets
   pub granted : IsTrue (grants r.rights right)
 
--- a peer in domain pd may use n octets of the region from `to` on
+-- a peer may use n octets of the region from `to` on
+abbrev pub AllowsFor : Table → Peer → Stag → ℕ → ℕ → Right → Type 0
+AllowsFor table peer stag to n right = (n ≡ 0) ⊎ ((stag.domain ≡ peer.domain) × IsSomeAnd (region_at table stag) (λ r. Serves r peer.stream to n right))
+
+-- the same for a peer in domain pd whose stream has no number
 abbrev pub Allows : Table → ℕ → Stag → ℕ → ℕ → Right → Type 0
-Allows table pd stag to n right = (n ≡ 0) ⊎ ((stag.domain ≡ pd) × IsSomeAnd (region_at table stag) (λ r. Serves r to n right))
+Allows table pd stag to n right = AllowsFor table (in_domain pd) stag to n right
 
 -- nothing is denied exactly where it is allowed
 abbrev pub DeniesRest : Type 0
-DeniesRest = (table : Table) (pd : ℕ) (stag : Stag) (to n : ℕ) (right : Right) → (denial table pd stag to n right ≡ None) ↔ Allows table pd stag to n right
+DeniesRest = (table : Table) (peer : Peer) (stag : Stag) (to n : ℕ) (right : Right) → (denial_for table peer stag to n right ≡ None) ↔ AllowsFor table peer stag to n right
 
 -- the STag names a region that has the n tagged offsets from `to` on
 abbrev pub IsWithin : Table → Stag → ℕ → ℕ → Type 0
@@ -35,7 +41,7 @@ pub record ChangesOneStag (old new : Table) (stag : Stag) (region : Option Regio
   pub others : (other : Stag) → other ≢ stag → region_at new other ≡ region_at old other
   pub domains : (d : ℕ) → d ≢ stag.domain → part_of new d ≡ part_of old d
 
--- each region has the base, the length, the rights and the validity that it had
+-- each region has the base, the length, the rights, the scope and the validity that it had
 abbrev pub KeepsFacts : Table → Table → Type 0
 KeepsFacts old new = (stag : Stag) → option_map facts_of (region_at new stag) ≡ option_map facts_of (region_at old stag)
 
@@ -73,8 +79,8 @@ pub record SetsPart (old new : Table) (domain : ℕ) (part : Part) : Type 0 wher
 
 -- each answer to a domain is one of its own part, and each of its steps is a step of its own part that leaves the parts of all others
 pub record OwnSteps (table : Table) (domain : ℕ) : Type 0 where
-  pub denied : (stag : Stag) (to n : ℕ) (right : Right) → denial table domain stag to n right ≡ own_denial (part_of table domain) domain stag to n right
-  pub invalidate_denied : (stag : Stag) → invalidate_denial table domain stag ≡ own_invalidate_denial (part_of table domain) domain stag
+  pub denied : (stream : Option ℕ) (stag : Stag) (to n : ℕ) (right : Right) → denial_for table (record { domain = domain; stream = stream }) stag to n right ≡ own_denial_for (part_of table domain) (record { domain = domain; stream = stream }) stag to n right
+  pub invalidate_denied : (stream : Option ℕ) (stag : Stag) → invalidate_denial_for table (record { domain = domain; stream = stream }) stag ≡ own_invalidate_denial_for (part_of table domain) (record { domain = domain; stream = stream }) stag
   pub region : (stag : Stag) → stag.domain ≡ domain → region_at table stag ≡ own_region (part_of table domain) stag
   pub store_refused : (stag : Stag) (to n : ℕ) → stag.domain ≡ domain → store_refusal table stag to n ≡ own_store_refusal (part_of table domain) stag to n
   pub add_refused : domain_refusal table domain ≡ own_domain_refusal (part_of table domain) domain
@@ -83,12 +89,68 @@ pub record OwnSteps (table : Table) (domain : ℕ) : Type 0 where
   pub puts : (stag : Stag) (to : ℕ) (octets : List ℕ) → stag.domain ≡ domain → SetsPart table (put table stag to octets) domain (own_put (part_of table domain) stag to octets)
   pub changes : (stag : Stag) (change : Region → Region) → stag.domain ≡ domain → SetsPart table (with_region table stag change) domain (own_changed (part_of table domain) stag change)
   pub invalidates : (stag : Stag) → stag.domain ≡ domain → SetsPart table (invalidated table stag) domain (own_invalidated (part_of table domain) stag)
+  pub retires : (stream : Option ℕ) → SetsPart table (retired table (record { domain = domain; stream = stream })) domain (own_retired (part_of table domain) stream)
   pub deregisters : (stag : Stag) → stag.domain ≡ domain → SetsPart table (deregistered table stag) domain (own_deregistered (part_of table domain) stag)
   pub registers : (region : Region) → SetsPart table (registered table domain region) domain (own_registered (part_of table domain) region)
   pub adds : SetsPart table (added table domain) domain own_added
 
 abbrev pub DomainsAreApart : Type 0
 DomainsAreApart = (table : Table) (domain : ℕ) → domain < length table → OwnSteps table domain
+
+-- ---- streams
+
+-- the STag names a region that is limited to another stream than the peer's
+pub record IsOutOfScope (table : Table) (peer : Peer) (stag : Stag) : Type 0 where
+  pub region : Region
+  pub found : region_at table stag ≡ Some region
+  pub apart : is_in_scope region.bound peer.stream ≡ false
+
+-- the two peers are answered the same, whatever they ask of the region
+pub record LooksAlike (table : Table) (peer other : Peer) (stag : Stag) : Type 0 where
+  pub denied : (to n : ℕ) (right : Right) → denial_for table peer stag to n right ≡ denial_for table other stag to n right
+  pub invalidate_denied : invalidate_denial_for table peer stag ≡ invalidate_denial_for table other stag
+
+-- to a peer out of whose scope it is, a region looks as it looks to the peers of other domains
+abbrev pub OutOfScopeLooksForeign : Type 0
+OutOfScopeLooksForeign = (table : Table) (peer other : Peer) (stag : Stag) → IsOutOfScope table peer stag → other.domain ≢ stag.domain → LooksAlike table peer other stag
+
+-- what the peer may place or invalidate leaves the region as it was
+pub record IsKept (table : Table) (peer : Peer) (hidden : Stag) : Type 0 where
+  pub placed : (stag : Stag) (to : ℕ) (octets : List ℕ) (right : Right) → denial_for table peer stag to (length octets) right ≡ None → region_at (put table stag to octets) hidden ≡ region_at table hidden
+  pub invalidated : (stag : Stag) → invalidate_denial_for table peer stag ≡ None → region_at (invalidated table stag) hidden ≡ region_at table hidden
+
+abbrev pub OutOfScopeIsKept : Type 0
+OutOfScopeIsKept = (table : Table) (peer : Peer) (hidden : Stag) → IsOutOfScope table peer hidden → IsKept table peer hidden
+
+-- the tables differ at most in regions that are out of the peer's scope
+abbrev pub DiffersOutOfScope : Table → Table → Peer → Type 0
+DiffersOutOfScope old new peer = (stag : Stag) → (region_at new stag ≡ region_at old stag) ⊎ (IsOutOfScope old peer stag × IsOutOfScope new peer stag)
+
+-- the peer is answered the same by both, and what it may read is the same
+pub record AnswersAlike (old new : Table) (peer : Peer) : Type 0 where
+  pub denied : (stag : Stag) (to n : ℕ) (right : Right) → denial_for new peer stag to n right ≡ denial_for old peer stag to n right
+  pub invalidate_denied : (stag : Stag) → invalidate_denial_for new peer stag ≡ invalidate_denial_for old peer stag
+  pub octets : (stag : Stag) (to n : ℕ) (right : Right) → denial_for old peer stag to n right ≡ None → octets_at new stag to n ≡ octets_at old stag to n
+
+abbrev pub OutOfScopeIsHidden : Type 0
+OutOfScopeIsHidden = (old new : Table) (peer : Peer) → DiffersOutOfScope old new peer → AnswersAlike old new peer
+
+-- the regions that are limited to the peer's stream are changed so, the others of its domain stay, and no peer may use those any more
+pub record Retires (table : Table) (peer : Peer) : Type 0 where
+  pub own : (stag : Stag) → stag.domain ≡ peer.domain → region_at (retired table peer) stag ≡ option_map (retired_region peer.stream) (region_at table stag)
+  pub others : (d : ℕ) → d ≢ peer.domain → part_of (retired table peer) d ≡ part_of table d
+  pub ended : (stag : Stag) → stag.domain ≡ peer.domain → IsSomeAnd (region_at table stag) (λ r. IsTrue (is_bound_to r.bound peer.stream)) →
+      (other : Peer) (to n : ℕ) (right : Right) → denial_for (retired table peer) other stag to n right ≡ None → n ≡ 0
+
+abbrev pub RetireEndsScope : Type 0
+RetireEndsScope = (table : Table) (peer : Peer) → Retires table peer
+
+-- which streams are in scope
+pub record KnownScopes : Type 0 where
+  pub domain : (stream : Option ℕ) → is_in_scope None stream ≡ true
+  pub own : is_in_scope (Some 7) (Some 7) ≡ true
+  pub other : is_in_scope (Some 7) (Some 8) ≡ false
+  pub none : is_in_scope (Some 7) None ≡ false
 
 -- ---- limits
 

@@ -6,4 +6,5 @@ pub mod Laws
 pub mod Held
 pub mod Lending
 pub mod Inside
+pub mod Retiring
 pub mod TableLending

@@ -1,8 +1,9 @@
 -- What one domain has of the memory. Each call is defined on this part alone, so no domain sees or changes what is another's.
-use Rattle.std.specs.Prelude.{ℕ, ◌+◌, ◌^◌, ◌%◌, ◌==◌, ◌&&◌, nat_lt, nat_le, not, is_some, is_none, List, [], ◌∷◌, ◌++◌, length, Option, Some, None, slice_index_or, slice_set, unwrap_or, if◌then◌else◌}
-use Rattle.std.specs.Option.{option_map_or}
+use Rattle.std.specs.Prelude.{ℕ, ◌+◌, ◌^◌, ◌%◌, ◌==◌, ◌&&◌, nat_lt, nat_le, not, is_some, is_none, List, [], ◌∷◌, ◌++◌, length, map, Option, Some, None, slice_index_or, slice_set, unwrap_or, if◌then◌else◌}
+use Rattle.std.specs.Option.{option_map, option_map_or}
 use Rattle.std.specs.List.{position_or_len}
 use Rattle.iw_octets.specs.declared.stag.Stag.{Stag}
+use Rattle.iw_memory.specs.declared.peer.Peer.{Peer}
 use Rattle.iw_memory.specs.declared.rights.Right.{Right}
 use Rattle.iw_memory.specs.declared.refusal.Deny.{Deny}
 use Rattle.iw_memory.specs.declared.refusal.Deny.TheVariants.{NotAssociated, Invalid}
@@ -14,7 +15,7 @@ use Rattle.iw_memory.specs.declared.refusal.StoreRefusal.{StoreRefusal}
 use Rattle.iw_memory.specs.declared.refusal.StoreRefusal.TheVariants.{NoRegion, Outside}
 use Rattle.iw_memory.specs.declared.refusal.InvalidateDeny.{InvalidateDeny}
 use Rattle.iw_memory.specs.declared.refusal.InvalidateDeny.TheVariants.{NotAssociated as NotOwn, Invalid as NotValid, NotAllowed}
-use Rattle.iw_memory.specs.Region.{Region, region_denial, region_with, made_invalid}
+use Rattle.iw_memory.specs.Region.{Region, in_domain, is_in_scope, region_denial_for, region_with, made_invalid, retired_region}
 
 -- a slot of a domain: its region, if it holds one, and the key of that region, or else of its next one
 pub record SlotState : Type 0 where
@@ -40,20 +41,33 @@ under_key s key = if s.key == key then s.region else None
 abbrev pub own_region : Part → Stag → Option Region
 own_region part stag = under_key (slice_index_or (own_slots part) stag.slot unused) stag.key
 
--- ---- what a peer in domain pd is answered
+-- ---- what a peer is answered
 
 -- the first reason why it may not use n octets from `to` on; with no octets nothing is checked
-abbrev pub own_denial : Part → ℕ → Stag → ℕ → ℕ → Right → Option Deny
-own_denial part pd stag to n right =
+abbrev pub own_denial_for : Part → Peer → Stag → ℕ → ℕ → Right → Option Deny
+own_denial_for part peer stag to n right =
     if n == 0 then None else
-    (if not (stag.domain == pd) then Some NotAssociated else
-    option_map_or (λ r. region_denial r to n right) (own_region part stag) (Some Invalid))
+    (if not (stag.domain == peer.domain) then Some NotAssociated else
+    option_map_or (λ r. region_denial_for r peer.stream to n right) (own_region part stag) (Some Invalid))
+
+abbrev pub own_denial : Part → ℕ → Stag → ℕ → ℕ → Right → Option Deny
+own_denial part pd stag to n right = own_denial_for part (in_domain pd) stag to n right
+
+-- the first reason why it may not invalidate a region of its domain
+abbrev pub region_invalidate_denial : Region → Option ℕ → Option InvalidateDeny
+region_invalidate_denial r stream =
+    if not (is_in_scope r.bound stream) then Some NotOwn else
+    (if not r.valid then Some NotValid else
+    (if not r.rights.invalidate then Some NotAllowed else None))
 
 -- the first reason why it may not invalidate the region
+abbrev pub own_invalidate_denial_for : Part → Peer → Stag → Option InvalidateDeny
+own_invalidate_denial_for part peer stag =
+    if not (stag.domain == peer.domain) then Some NotOwn else
+    option_map_or (λ r. region_invalidate_denial r peer.stream) (own_region part stag) (Some NotValid)
+
 abbrev pub own_invalidate_denial : Part → ℕ → Stag → Option InvalidateDeny
-own_invalidate_denial part pd stag =
-    if not (stag.domain == pd) then Some NotOwn else
-    option_map_or (λ r. if not r.valid then Some NotValid else (if not r.rights.invalidate then Some NotAllowed else None)) (own_region part stag) (Some NotValid)
+own_invalidate_denial part pd stag = own_invalidate_denial_for part (in_domain pd) stag
 
 -- ---- what the owner is answered
 
@@ -98,6 +112,14 @@ own_put part stag to octets = own_changed part stag (λ r. region_with r to octe
 
 abbrev pub own_invalidated : Part → Stag → Part
 own_invalidated part stag = own_changed part stag made_invalid
+
+-- the slot, with a region that is limited to this stream out of use
+abbrev pub retired_slot : Option ℕ → SlotState → SlotState
+retired_slot stream s = record s { region = option_map (retired_region stream) s.region }
+
+-- the regions that are limited to this stream are out of use
+abbrev pub own_retired : Part → Option ℕ → Part
+own_retired part stream = option_map (map (retired_slot stream)) part
 
 -- the region goes, and its slot's next region gets the next key; where the STag names none, the part stays
 abbrev pub own_deregistered : Part → Stag → Part

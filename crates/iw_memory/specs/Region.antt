@@ -1,9 +1,10 @@
 -- A region, and what its owner and a peer may do with it.
-use Rattle.std.specs.Prelude.{ℕ, ◌+◌, ◌-◌, ◌≤◌, ◌^◌, ◌||◌, nat_lt, not, if◌then◌else◌, Option, Some, None, Bool, true, false, List, length, take, drop, ◌++◌}
+use Rattle.std.specs.Prelude.{ℕ, ◌+◌, ◌-◌, ◌≤◌, ◌^◌, ◌==◌, ◌||◌, nat_lt, is_none, not, if◌then◌else◌, Option, Some, None, Bool, true, false, List, length, take, drop, ◌++◌}
+use Rattle.iw_memory.specs.declared.peer.Peer.{Peer}
 use Rattle.iw_memory.specs.declared.rights.Rights.{Rights}
 use Rattle.iw_memory.specs.declared.region.Facts.{Facts}
 use Rattle.iw_memory.specs.declared.refusal.Deny.{Deny}
-use Rattle.iw_memory.specs.declared.refusal.Deny.TheVariants.{Invalid, ToWrap, Bounds, Rights as NoRights}
+use Rattle.iw_memory.specs.declared.refusal.Deny.TheVariants.{NotAssociated, Invalid, ToWrap, Bounds, Rights as NoRights}
 use Rattle.iw_memory.specs.declared.rights.Right.{Right}
 use Rattle.iw_memory.specs.declared.rights.Right.TheVariants.{Write, Read, Sink}
 
@@ -12,15 +13,34 @@ pub record Region : Type 0 where
   pub base : ℕ
   pub octets : List ℕ
   pub rights : Rights
+  pub bound : Option ℕ  -- the stream that it is limited to, if it is limited to one
   pub valid : Bool
 
--- a region as it is registered
+-- a region as it is registered, for any stream of its domain
 abbrev pub new_region : ℕ → List ℕ → Rights → Region
-new_region base octets rights = record { base = base; octets = octets; rights = rights; valid = true }
+new_region base octets rights = record { base = base; octets = octets; rights = rights; bound = None; valid = true }
+
+-- the same, limited to this stream
+abbrev pub bound_region : ℕ → ℕ → List ℕ → Rights → Region
+bound_region stream base octets rights = record (new_region base octets rights) { bound = Some stream }
 
 -- what is told of a region
 abbrev pub facts_of : Region → Facts
-facts_of r = record { base = r.base; len = length r.octets; rights = r.rights; valid = r.valid }
+facts_of r = record { base = r.base; len = length r.octets; rights = r.rights; bound = r.bound; valid = r.valid }
+
+-- a peer in domain pd whose stream has no number
+abbrev pub in_domain : ℕ → Peer
+in_domain pd = record { domain = pd; stream = None }
+
+-- what is limited so is limited to this stream
+abbrev pub is_bound_to : Option ℕ → Option ℕ → Bool
+is_bound_to None stream = false
+is_bound_to (Some bound) None = false
+is_bound_to (Some bound) (Some stream) = bound == stream
+
+-- this stream of the domain is in the scope of what is limited so (RFC 5042 2.2.5): the scope is that stream, or the domain
+abbrev pub is_in_scope : Option ℕ → Option ℕ → Bool
+is_in_scope bound stream = is_none bound || is_bound_to bound stream
 
 abbrev pub grants : Rights → Right → Bool
 grants rights Write = rights.write
@@ -55,6 +75,14 @@ region_denial r to n right =
     (if nat_lt (2 ^ 64) (to + n) then Some ToWrap else
     (if nat_lt to r.base || nat_lt (r.base + length r.octets) (to + n) then Some Bounds else
     (if not (grants r.rights right) then Some NoRights else None)))
+
+-- the same, for a stream of its domain
+abbrev pub region_denial_for : Region → Option ℕ → ℕ → ℕ → Right → Option Deny
+region_denial_for r stream to n right = if not (is_in_scope r.bound stream) then Some NotAssociated else region_denial r to n right
+
+-- the region, put out of use if it is limited to this stream
+abbrev pub retired_region : Option ℕ → Region → Region
+retired_region stream r = if is_bound_to r.bound stream then made_invalid r else r
 
 -- how many octets a region may have, and where it may end
 pub record IsWithinLimits (base len : ℕ) : Type 0 where

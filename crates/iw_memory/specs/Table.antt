@@ -2,14 +2,15 @@
 use Rattle.std.specs.Prelude.{ℕ, Bool, is_some, List, Option, None, slice_index_or, slice_set, replicate, []}
 use Rattle.std.specs.Option.{option_map_or}
 use Rattle.iw_octets.specs.declared.stag.Stag.{Stag}
+use Rattle.iw_memory.specs.declared.peer.Peer.{Peer}
 use Rattle.iw_memory.specs.declared.rights.Right.{Right}
 use Rattle.iw_memory.specs.declared.refusal.Deny.{Deny}
 use Rattle.iw_memory.specs.declared.refusal.DomainRefusal.{DomainRefusal}
 use Rattle.iw_memory.specs.declared.refusal.RegisterRefusal.{RegisterRefusal}
 use Rattle.iw_memory.specs.declared.refusal.StoreRefusal.{StoreRefusal}
 use Rattle.iw_memory.specs.declared.refusal.InvalidateDeny.{InvalidateDeny}
-use Rattle.iw_memory.specs.Region.{Region, octets_from}
-use Rattle.iw_memory.specs.Part.{Part, SlotState, own_slots, own_region, own_denial, own_invalidate_denial, own_domain_refusal, own_register_refusal, own_next_stag, own_store_refusal, own_slot, own_changed, own_put, own_invalidated, own_deregistered, own_added, own_registered}
+use Rattle.iw_memory.specs.Region.{Region, in_domain, octets_from}
+use Rattle.iw_memory.specs.Part.{Part, SlotState, own_slots, own_region, own_denial_for, own_invalidate_denial_for, own_domain_refusal, own_register_refusal, own_next_stag, own_store_refusal, own_slot, own_changed, own_put, own_invalidated, own_retired, own_deregistered, own_added, own_registered}
 
 -- at each domain number, that domain's part
 abbrev pub Table : Type 0
@@ -39,12 +40,19 @@ region_at table stag = own_region (part_of table stag.domain) stag
 
 -- ---- answers
 
--- the first reason why a peer in domain pd may not use n octets from `to` on
+-- the first reason why a peer may not use n octets from `to` on
+abbrev pub denial_for : Table → Peer → Stag → ℕ → ℕ → Right → Option Deny
+denial_for table peer stag to n right = own_denial_for (part_of table peer.domain) peer stag to n right
+
+abbrev pub invalidate_denial_for : Table → Peer → Stag → Option InvalidateDeny
+invalidate_denial_for table peer stag = own_invalidate_denial_for (part_of table peer.domain) peer stag
+
+-- the same for a peer in domain pd whose stream is not named
 abbrev pub denial : Table → ℕ → Stag → ℕ → ℕ → Right → Option Deny
-denial table pd stag to n right = own_denial (part_of table pd) pd stag to n right
+denial table pd stag to n right = denial_for table (in_domain pd) stag to n right
 
 abbrev pub invalidate_denial : Table → ℕ → Stag → Option InvalidateDeny
-invalidate_denial table pd stag = own_invalidate_denial (part_of table pd) pd stag
+invalidate_denial table pd stag = invalidate_denial_for table (in_domain pd) stag
 
 abbrev pub domain_refusal : Table → ℕ → Option DomainRefusal
 domain_refusal table pd = own_domain_refusal (part_of table pd) pd
@@ -79,6 +87,10 @@ put table stag to octets = with_part table stag.domain (own_put (part_of table s
 
 abbrev pub invalidated : Table → Stag → Table
 invalidated table stag = with_part table stag.domain (own_invalidated (part_of table stag.domain) stag)
+
+-- the table in which the regions of the peer's domain that are limited to its stream are out of use
+abbrev pub retired : Table → Peer → Table
+retired table peer = with_part table peer.domain (own_retired (part_of table peer.domain) peer.stream)
 
 abbrev pub deregistered : Table → Stag → Table
 deregistered table stag = with_part table stag.domain (own_deregistered (part_of table stag.domain) stag)

@@ -1,6 +1,7 @@
 ghost use Rattle.iw_memory.specs.Laws.{PutChangesOneRegion, PutNothing, InvalidateChangesOneRegion};
 ghost use Rattle.iw_memory.specs.Laws.{RegisterChangesOneStag, DeregisterChangesOneStag};
-ghost use Rattle.iw_memory.specs.Laws.{DeniesRest, DomainsAreApart};
+ghost use Rattle.iw_memory.specs.Laws.{DeniesRest, DomainsAreApart, KnownScopes};
+ghost use Rattle.iw_memory.specs.Laws.{OutOfScopeLooksForeign, OutOfScopeIsKept, OutOfScopeIsHidden, RetireEndsScope};
 
 /// What is not denied is allowed, and the other way round.
 pub fn denies_rest()
@@ -35,4 +36,30 @@ pub fn deregister_changes_one_stag()
 /// What a domain is answered and what its calls leave depends on its own part alone, and changes no other part.
 pub fn domains_are_apart()
     ensures { DomainsAreApart }
+{}
+
+/// To the peer of another stream, a region that is limited to one stream looks as a region of another domain: the
+/// answers are the same, whatever else holds (RFC 5042 6.1.1).
+pub fn out_of_scope_looks_foreign()
+    ensures { OutOfScopeLooksForeign }
+{}
+
+/// Whatever the peer of another stream may do leaves a region that is limited to one stream as it was.
+pub fn out_of_scope_is_kept()
+    ensures { OutOfScopeIsKept }
+{}
+
+/// No answer, and no octets that a peer may read, depend on a region that is limited to another stream.
+pub fn out_of_scope_is_hidden()
+    ensures { OutOfScopeIsHidden }
+{}
+
+/// `retire` puts the regions that are limited to the stream out of use, and changes nothing else.
+pub fn retire_ends_scope()
+    ensures { RetireEndsScope }
+{}
+
+/// Which streams are in the scope of a region, worked by hand.
+pub fn known_scopes()
+    ensures { KnownScopes }
 {}

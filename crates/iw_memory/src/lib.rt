@@ -6,22 +6,27 @@
 //!
 //! `check` says whether a peer may use the part that an STag, a tagged offset and a length name; `part` and `part_mut`
 //! lend it. The region must be valid, of the stream's domain, and long enough, and must grant the [`Right`]; otherwise a
-//! [`Deny`] says why not. Only `new` and `register` take memory.
+//! [`Deny`] says why not. A region may be limited to one stream of its domain (`register_for`): the calls that take a
+//! [`Peer`] (`check_for`, `part_for` and others) know the stream, and `retire` ends the use of its regions. Only `add_domain` and `register` take memory.
 #![tactic(auto)]
 
 mod laws;
 mod memory;
+mod peer;
 mod refusal;
 mod region;
+mod retiring;
 mod rights;
 mod slots;
 
 pub use iw_octets::Stag;
 pub use laws::{
     denies_rest, deregister_changes_one_stag, domains_are_apart, invalidate_changes_one_region,
-    put_changes_one_region, put_nothing, register_changes_one_stag,
+    known_scopes, out_of_scope_is_hidden, out_of_scope_is_kept, out_of_scope_looks_foreign,
+    put_changes_one_region, put_nothing, register_changes_one_stag, retire_ends_scope,
 };
 pub use memory::Memory;
+pub use peer::Peer;
 pub use refusal::{Deny, DomainRefusal, InvalidateDeny, NoRegion, RegisterRefusal, StoreRefusal};
 pub use region::Facts;
 pub use rights::{Right, Rights};

@@ -5,15 +5,17 @@ ghost use Rattle.std.specs.Result.{result_err, result_ok};
 ghost use Rattle.std.specs.Option.{option_map};
 ghost use Rattle.std.specs.Borrow.{sem};
 
+use crate::peer::Peer;
 use crate::refusal::{
     Deny, DomainRefusal, InvalidateDeny, NoRegion, RegisterRefusal, StoreRefusal,
 };
 use crate::region::{Facts, Stored};
+use crate::retiring::retire_all;
 use crate::rights::{Right, Rights};
-use crate::slots::{Slot, find, lowest_free_in, make_room, set_slot};
+use crate::slots::{Domains, Slot};
 use iw_octets::{MAX_OCTETS, Stag};
 use slab::Slab;
-use std::alloc::{AllocError, Allocator, Global};
+use std::alloc::{Allocator, Global};
 use std::marker::Model;
 
 // The most regions of a domain.
@@ -23,7 +25,7 @@ const MAX_SLOTS: usize = 1024;
 /// that tells the uses of the slot apart.
 #[derive(Drop)]
 pub struct Memory<A: Allocator = Global> {
-    domains: Vec<Option<Vec<Slot, A>>, A>,
+    domains: Domains<A>,
     regions: Slab<Stored<A>, A>,
     // Empty: the part of no octets.
     nothing: Vec<u8, A>,
@@ -36,53 +38,54 @@ impl<A: Allocator> Model for Memory<A> {
 
     ghost use Rattle.iw_memory.specs.Inside.{table_of, Keeps};
 
-    ghost view = { λ m. table_of m.domains.items m.regions };
+    ghost view = { λ m. table_of m.domains m.regions };
 
-    ghost invariant = { λ m. Keeps m.domains.items m.regions m.nothing.items };
+    ghost invariant = { λ m. Keeps m.domains m.regions m.nothing.items };
 }
 
 impl<A: Allocator> Memory<A> {
-    ghost use Rattle.iw_memory.specs.Region.{facts_of, new_region, IsWithinLimits};
+    ghost use Rattle.iw_memory.specs.Region.{facts_of, new_region, bound_region, in_domain, IsWithinLimits};
     ghost use Rattle.iw_memory.specs.Part.{free_slot};
     ghost use Rattle.iw_memory.specs.Table.{empty, is_added, slots_of, domain_refusal, added};
     ghost use Rattle.iw_memory.specs.Table.{region_at, register_refusal, next_stag, registered, deregistered};
-    ghost use Rattle.iw_memory.specs.Table.{denial, octets_at, put, store_refusal, invalidate_denial, invalidated};
+    ghost use Rattle.iw_memory.specs.Table.{denial, denial_for, octets_at, put, store_refusal};
+    ghost use Rattle.iw_memory.specs.Table.{invalidate_denial, invalidate_denial_for, invalidated, retired};
     ghost use Rattle.iw_memory.specs.Laws.{IsWithin, HoldsLimits};
     ghost use Rattle.iw_memory.specs.TableLending.{LendsPart, LendsNothing, LendsOctetsAt, LendsLocal};
 
-    /// A memory with no domain. `Err` if out of memory.
-    pub fn new(alloc: A) -> Result<Memory<A>, AllocError>
+    /// A memory with no domain. It takes no memory.
+    pub fn new(alloc: A) -> Memory<A>
     where
         A: Copy,
-        ensures { IfOk result (λ memory. memory ≡ empty) }
+        ensures { result ≡ empty }
     {
-        let mut domains = Vec::with_capacity(alloc, 256)?;
-        for _i in 0..256usize {
-            domains.push(None)?;
-        }
-        Ok(Memory {
-            domains,
+        Memory {
+            domains: Domains::new(alloc),
             regions: Slab::new(alloc),
             nothing: Vec::new(alloc),
-        })
+        }
     }
 
-    /// Adds a domain with no region. It takes no memory. An `Err` changes nothing.
+    /// Adds a domain with no region. It takes memory for a place for each number up to `pd`, if they have none yet.
+    /// `NoMemory` comes only if no other refusal applies. An `Err` changes nothing.
     pub fn add_domain(&mut self, pd: u8) -> Result<(), DomainRefusal>
     where
         A: Copy,
-        ensures refused { result_err result ≡ domain_refusal self.old pd }
+        // The refusal that applies, or out of memory.
+        ensures refused { IfSome (domain_refusal self.old pd) (λ refusal. IfErr result (λ e. e ≡ refusal) × IsErr result) }
+        ensures memory { IfNone (domain_refusal self.old pd) (IfErr result (λ e. e ≡ DomainRefusal.NoMemory)) }
         ensures ok { OnOk result (self.new ≡ added self.old pd) }
         ensures err { OnErr result (self.new ≡ self.old) }
     {
         if pd == 0 {
             return Err(DomainRefusal::BadDomain);
         }
-        if self.domains[pd as usize].is_some() {
+        if self.domains.has(pd) {
             return Err(DomainRefusal::DomainTaken);
         }
-        let alloc = *self.domains.allocator();
-        self.domains[pd as usize] = Some(Vec::new(alloc));
+        let Ok(()) = self.domains.add(pd) else {
+            return Err(DomainRefusal::NoMemory);
+        };
         Ok(())
     }
 
@@ -90,7 +93,7 @@ impl<A: Allocator> Memory<A> {
     pub fn has_domain(&self, pd: u8) -> bool
         ensures { result ≡ is_added self.now pd }
     {
-        self.domains[pd as usize].is_some()
+        self.domains.has(pd)
     }
 
     /// Registers octets as a valid region in the domain's lowest free slot, and answers its STag. Its tagged offsets
@@ -114,9 +117,55 @@ impl<A: Allocator> Memory<A> {
         ensures stag { IfOk result (λ stag. stag ≡ next_stag self.old pd) }
         ensures ok { OnOk result (self.new ≡ registered self.old pd (new_region base octets.items rights)) }
     {
-        match self.place_for(pd, base, octets.len()) {
+        self.register_within(pd, None, base, octets, rights)
+    }
+
+    /// Registers octets as [`register`](Self::register) does, for one stream of the domain alone (RFC 5042 6.1.1). To
+    /// the peer of any other stream the region is as one of another domain. The refusals are those of `register`. An
+    /// `Err` changes nothing, and gives the octets back.
+    pub fn register_for(
+        &mut self,
+        pd: u8,
+        stream: u32,
+        base: u64,
+        octets: Vec<u8, A>,
+        rights: Rights,
+    ) -> Result<Stag, (RegisterRefusal, Vec<u8, A>)>
+        // The refusal that applies, or out of memory.
+        ensures refused { IfSome (register_refusal self.old pd base (length octets.items))
+            (λ refusal. IfErr result (λ e. e.0 ≡ refusal) × IsErr result) }
+        ensures memory { IfNone (register_refusal self.old pd base (length octets.items))
+            (IfErr result (λ e. e.0 ≡ RegisterRefusal.NoMemory)) }
+        ensures back { IfErr result (λ e. e.1 ≡ octets) }
+        ensures err { OnErr result (self.new ≡ self.old) }
+
+        ensures stag { IfOk result (λ stag. stag ≡ next_stag self.old pd) }
+        ensures ok { OnOk result (self.new ≡ registered self.old pd (bound_region stream base octets.items rights)) }
+    {
+        self.register_within(pd, Some(stream), base, octets, rights)
+    }
+
+    // Registers octets for this stream of the domain, or for all of them.
+    fn register_within(
+        &mut self,
+        pd: u8,
+        bound: Option<u32>,
+        base: u64,
+        octets: Vec<u8, A>,
+        rights: Rights,
+    ) -> Result<Stag, (RegisterRefusal, Vec<u8, A>)>
+        ensures refused { IfSome (register_refusal self.old pd base (length octets.items))
+            (λ refusal. IfErr result (λ e. e.0 ≡ refusal) × IsErr result) }
+        ensures memory { IfNone (register_refusal self.old pd base (length octets.items))
+            (IfErr result (λ e. e.0 ≡ RegisterRefusal.NoMemory)) }
+        ensures back { IfErr result (λ e. e.1 ≡ octets) }
+        ensures err { OnErr result (self.new ≡ self.old) }
+        ensures stag { IfOk result (λ stag. stag ≡ next_stag self.old pd) }
+        ensures ok { OnOk result (self.new ≡ registered self.old pd (record (new_region base octets.items rights) { bound = bound })) }
+    {
+        match self.slot_for(pd, base, octets.len()) {
             Err(refusal) => Err((refusal, octets)),
-            Ok(slot) => match self.hold(pd, slot, base, octets, rights) {
+            Ok(slot) => match self.hold(pd, slot, bound, base, octets, rights) {
                 Err(octets) => Err((RegisterRefusal::NoMemory, octets)),
                 Ok(key) => Ok(Stag::new(pd, slot as u16, key)),
             },
@@ -124,12 +173,12 @@ impl<A: Allocator> Memory<A> {
     }
 
     // The slot that the next region of the domain gets.
-    fn place_for(&self, pd: u8, base: u64, len: usize) -> Result<usize, RegisterRefusal>
+    fn slot_for(&self, pd: u8, base: u64, len: usize) -> Result<usize, RegisterRefusal>
         ensures refused { result_err result ≡ register_refusal self.now pd base len }
         ensures slot { IfOk result (λ slot. (slot ≡ free_slot (slots_of self.now pd)) × (slot < 1024)) }
         ensures limits { OnOk result (IsWithinLimits base len) }
     {
-        let slot = match lowest_free_in(&self.domains, pd) {
+        let slot = match self.domains.lowest_free(pd) {
             None => return Err(RegisterRefusal::NoDomain),
             Some(slot) => slot,
         };
@@ -151,6 +200,7 @@ impl<A: Allocator> Memory<A> {
         &mut self,
         pd: u8,
         slot: usize,
+        bound: Option<u32>,
         base: u64,
         octets: Vec<u8, A>,
         rights: Rights,
@@ -160,14 +210,14 @@ impl<A: Allocator> Memory<A> {
         requires small { slot < 1024 }
         requires limits { IsWithinLimits base (length octets.items) }
         ensures key { IfOk result (λ key. key ≡ (next_stag self.old pd).key) }
-        ensures ok { OnOk result (self.new ≡ registered self.old pd (new_region base octets.items rights)) }
+        ensures ok { OnOk result (self.new ≡ registered self.old pd (record (new_region base octets.items rights) { bound = bound })) }
         ensures back { IfErr result (λ e. e ≡ octets) }
         ensures err { OnErr result (self.new ≡ self.old) }
     {
         if self.regions.reserve(1).is_err() {
             return Err(octets);
         }
-        let key = match make_room(&mut self.domains, pd, slot) {
+        let key = match self.domains.make_room(pd, slot) {
             Err(_) => return Err(octets),
             Ok(key) => key,
         };
@@ -177,9 +227,10 @@ impl<A: Allocator> Memory<A> {
             base,
             octets,
             rights,
+            bound,
             valid: true,
         });
-        set_slot(&mut self.domains, pd, slot, Slot { key, at: Some(at) });
+        self.domains.set_slot(pd, slot, Slot { key, at: Some(at) });
         Ok(key)
     }
 
@@ -190,7 +241,7 @@ impl<A: Allocator> Memory<A> {
         ensures after { self.new ≡ deregistered self.old stag }
         ensures err { OnErr result (self.new ≡ self.old) }
     {
-        let Some(at) = find(&self.domains, stag) else {
+        let Some(at) = self.domains.find(stag) else {
             return Err(NoRegion);
         };
         let stored = self.regions.remove(at);
@@ -198,7 +249,8 @@ impl<A: Allocator> Memory<A> {
             key: stag.key().wrapping_add(1),
             at: None,
         };
-        set_slot(&mut self.domains, stag.domain(), stag.slot() as usize, free);
+        self.domains
+            .set_slot(stag.domain(), stag.slot() as usize, free);
         Ok(stored.into_octets())
     }
 
@@ -209,7 +261,7 @@ impl<A: Allocator> Memory<A> {
         ensures after { self.new ≡ invalidated self.old stag }
         ensures err { OnErr result (self.new ≡ self.old) }
     {
-        let Some(at) = find(&self.domains, stag) else {
+        let Some(at) = self.domains.find(stag) else {
             return Err(NoRegion);
         };
         let stored = &mut self.regions[at];
@@ -217,19 +269,43 @@ impl<A: Allocator> Memory<A> {
         Ok(())
     }
 
-    /// Invalidates a region because a peer in domain `pd` asks for it, by a Send with Invalidate (RFC 5040 5.3).
-    /// An `Err` changes nothing.
+    /// Ends the use of every region of the peer's domain that is limited to its stream, because the stream was closed.
+    /// They stay registered, and keep their slots. It walks the domain's slots once, at most 1,024, and takes no memory.
+    pub fn retire(&mut self, peer: Peer)
+        ensures { self.new ≡ retired self.old peer }
+    {
+        let Some(slots) = self.domains.slots(peer.domain) else {
+            return;
+        };
+        retire_all(&mut self.regions, slots, peer.stream);
+    }
+
+    /// Invalidates a region because a peer in domain `pd`, whose stream has no number, asks for it, by a Send with
+    /// Invalidate (RFC 5040 5.3). An `Err` changes nothing.
     pub fn invalidate_remote(&mut self, pd: u8, stag: Stag) -> Result<(), InvalidateDeny>
         ensures denied { result_err result ≡ invalidate_denial self.old pd stag }
         ensures ok { OnOk result (self.new ≡ invalidated self.old stag) }
         ensures err { OnErr result (self.new ≡ self.old) }
     {
-        if pd != stag.domain() {
+        self.invalidate_remote_for(Peer::in_domain(pd), stag)
+    }
+
+    /// Invalidates a region because this peer asks for it, by a Send with Invalidate (RFC 5040 5.3). An `Err` changes
+    /// nothing.
+    pub fn invalidate_remote_for(&mut self, peer: Peer, stag: Stag) -> Result<(), InvalidateDeny>
+        ensures denied { result_err result ≡ invalidate_denial_for self.old peer stag }
+        ensures ok { OnOk result (self.new ≡ invalidated self.old stag) }
+        ensures err { OnErr result (self.new ≡ self.old) }
+    {
+        if peer.domain != stag.domain() {
             return Err(InvalidateDeny::NotAssociated);
         }
         let Some(stored) = self.stored(stag) else {
             return Err(InvalidateDeny::Invalid);
         };
+        if !stored.is_in_scope(peer.stream) {
+            return Err(InvalidateDeny::NotAssociated);
+        }
         if !stored.valid {
             return Err(InvalidateDeny::Invalid);
         }
@@ -257,6 +333,7 @@ impl<A: Allocator> Memory<A> {
             base: stored.base,
             len: stored.octets.len(),
             rights: stored.rights,
+            bound: stored.bound,
             valid: stored.valid,
         })
     }
@@ -275,7 +352,7 @@ impl<A: Allocator> Memory<A> {
         ensures* lends { sem 𝓛 (LendsLocal A.row A.Allocator self.entry stag result) }
         ensures octets { Some result.now ≡ option_map (λ r. r.octets) (region_at self.old stag) }
     {
-        let key = find(&self.domains, stag).unwrap();
+        let key = self.domains.find(stag).unwrap();
         self.regions[key].octets_mut()
     }
 
@@ -302,66 +379,114 @@ impl<A: Allocator> Memory<A> {
         ensures region { option_map (λ s. s.now.region) result ≡ region_at self.now stag }
         ensures limits { IfSome result (λ s. IsWithinLimits s.now.region.base (length s.now.region.octets)) }
     {
-        let at = find(&self.domains, stag)?;
+        let at = self.domains.find(stag)?;
         self.regions.get(at)
     }
 
-    /// The `n` octets of the region from tagged offset `to` on, if a peer in domain `pd` may use them so.
-    /// If `n` is 0, nothing is checked, and the part is empty.
+    /// [`part_for`](Self::part_for) a peer in domain `pd` whose stream has no number.
     pub fn part(&self, pd: u8, stag: Stag, to: u64, n: usize, right: Right) -> Result<&[u8], Deny>
         ensures denied { result_err result ≡ denial self.now pd stag to n right }
+        ensures octets { IfOk result (λ part. part.now ≡ octets_at self.now stag to n) }
+    {
+        self.part_for(Peer::in_domain(pd), stag, to, n, right)
+    }
+
+    /// The `n` octets of the region from tagged offset `to` on, if this peer may use them so. If `n` is 0, nothing is
+    /// checked, and the part is empty.
+    pub fn part_for(
+        &self,
+        peer: Peer,
+        stag: Stag,
+        to: u64,
+        n: usize,
+        right: Right,
+    ) -> Result<&[u8], Deny>
+        ensures denied { result_err result ≡ denial_for self.now peer stag to n right }
         ensures octets { IfOk result (λ part. part.now ≡ octets_at self.now stag to n) }
     {
         if n == 0 {
             return Ok(&[]);
         }
-        let (stored, at) = self.admit(pd, stag, to, n, right)?;
+        let (stored, at) = self.admit(peer, stag, to, n, right)?;
         Ok(&stored.octets[at..at + n])
     }
 
-    /// Whether a peer in domain `pd` may use the `n` octets of the region from tagged offset `to` on so.
-    /// If `n` is 0, nothing is checked. It takes constant time.
+    /// [`check_for`](Self::check_for) a peer in domain `pd` whose stream has no number.
     #[inline(always)]
     pub fn check(&self, pd: u8, stag: Stag, to: u64, n: usize, right: Right) -> Result<(), Deny>
         ensures { result_err result ≡ denial self.now pd stag to n right }
     {
+        self.check_for(Peer::in_domain(pd), stag, to, n, right)
+    }
+
+    /// Whether this peer may use the `n` octets of the region from tagged offset `to` on so. If `n` is 0, nothing is
+    /// checked. It takes constant time.
+    #[inline(always)]
+    pub fn check_for(
+        &self,
+        peer: Peer,
+        stag: Stag,
+        to: u64,
+        n: usize,
+        right: Right,
+    ) -> Result<(), Deny>
+        ensures { result_err result ≡ denial_for self.now peer stag to n right }
+    {
         if n > 0 {
-            self.admit(pd, stag, to, n, right)?;
+            self.admit(peer, stag, to, n, right)?;
         }
         Ok(())
     }
 
-    // The stored region, and the index of the octet at tagged offset `to`, if a peer may use the octets so.
+    // The stored region, and the index of the octet at tagged offset `to`, if the peer may use the octets so.
     #[inline(always)]
     fn admit(
         &self,
-        pd: u8,
+        peer: Peer,
         stag: Stag,
         to: u64,
         n: usize,
         right: Right,
     ) -> Result<(&Stored<A>, usize), Deny>
         requires { 0 < n }
-        ensures denied { result_err result ≡ denial self.now pd stag to n right }
+        ensures denied { result_err result ≡ denial_for self.now peer stag to n right }
         ensures stored { IfOk result (λ place. region_at self.now stag ≡ Some place.0.now.region) }
         ensures at { IfOk result (λ place. place.1 ≡ to - place.0.now.region.base) }
         ensures within { IfOk result (λ place. place.1 + n ≤ length place.0.now.region.octets) }
     {
-        if stag.domain() != pd {
+        if stag.domain() != peer.domain {
             return Err(Deny::NotAssociated);
         }
         let Some(stored) = self.stored(stag) else {
             return Err(Deny::Invalid);
         };
-        let at = stored.place(to, n, right)?;
+        let at = stored.place(peer.stream, to, n, right)?;
         Ok((stored, at))
     }
 
-    /// The `n` octets of the region from tagged offset `to` on, for writing. `check` must have answered `Ok` to the
-    /// same arguments, as it does if `n` is 0. It takes constant time.
+    /// [`part_mut_for`](Self::part_mut_for) a peer in domain `pd` whose stream has no number. `check` must have answered
+    /// `Ok` to the same arguments.
     #[inline(always)]
     pub fn part_mut(&mut self, pd: u8, stag: Stag, to: u64, n: usize, right: Right) -> &mut [u8]
         requires { denial self.old pd stag to n right ≡ None }
+        ensures* lends { sem 𝓛 (LendsPart A.row A.Allocator self.entry stag to n result) }
+        ensures octets { result.now ≡ octets_at self.old stag to n }
+    {
+        self.part_mut_for(Peer::in_domain(pd), stag, to, n, right)
+    }
+
+    /// The `n` octets of the region from tagged offset `to` on, for writing. `check_for` must have answered `Ok` to the
+    /// same arguments, as it does if `n` is 0. It takes constant time.
+    #[inline(always)]
+    pub fn part_mut_for(
+        &mut self,
+        peer: Peer,
+        stag: Stag,
+        to: u64,
+        n: usize,
+        right: Right,
+    ) -> &mut [u8]
+        requires { denial_for self.old peer stag to n right ≡ None }
         ensures* lends { sem 𝓛 (LendsPart A.row A.Allocator self.entry stag to n result) }
         ensures octets { result.now ≡ octets_at self.old stag to n }
     {
@@ -372,7 +497,7 @@ impl<A: Allocator> Memory<A> {
         }
     }
 
-    /// Places a peer's octets in the region from tagged offset `to` on. An `Err` changes nothing.
+    /// [`place_for`](Self::place_for) a peer in domain `pd` whose stream has no number.
     pub fn place(
         &mut self,
         pd: u8,
@@ -385,8 +510,24 @@ impl<A: Allocator> Memory<A> {
         ensures ok { OnOk result (self.new ≡ put self.old stag to octets.now) }
         ensures err { OnErr result (self.new ≡ self.old) }
     {
-        self.check(pd, stag, to, octets.len(), right)?;
-        self.part_mut(pd, stag, to, octets.len(), right)
+        self.place_for(Peer::in_domain(pd), stag, to, octets, right)
+    }
+
+    /// Places this peer's octets in the region from tagged offset `to` on. An `Err` changes nothing.
+    pub fn place_for(
+        &mut self,
+        peer: Peer,
+        stag: Stag,
+        to: u64,
+        octets: &[u8],
+        right: Right,
+    ) -> Result<(), Deny>
+        ensures denied { result_err result ≡ denial_for self.old peer stag to (length octets.now) right }
+        ensures ok { OnOk result (self.new ≡ put self.old stag to octets.now) }
+        ensures err { OnErr result (self.new ≡ self.old) }
+    {
+        self.check_for(peer, stag, to, octets.len(), right)?;
+        self.part_mut_for(peer, stag, to, octets.len(), right)
             .copy_from_slice(octets);
         Ok(())
     }
@@ -406,7 +547,7 @@ impl<A: Allocator> Memory<A> {
         ensures* lends { sem 𝓛 (LendsOctetsAt A.row A.Allocator self.entry stag to result) }
         ensures octets { result.now ≡ octets_at self.old stag to n }
     {
-        let key = find(&self.domains, stag).unwrap();
+        let key = self.domains.find(stag).unwrap();
         self.regions[key].part_mut(to, n)
     }
 }

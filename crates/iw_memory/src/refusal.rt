@@ -9,7 +9,7 @@ pub enum DomainRefusal {
     /// The domain was added before.
     #[error("the domain was added before")]
     DomainTaken,
-    /// Out of memory. A domain takes no memory before its first region, so this is never answered.
+    /// Out of memory.
     #[error("no memory")]
     NoMemory,
 }
@@ -48,8 +48,9 @@ pub enum StoreRefusal {
 /// Why a peer may not use a part of a region (RFC 5040 and RFC 5042): the first reason that holds.
 #[derive(Clone, Copy, Debug, PartialEq, Eq, Error)]
 pub enum Deny {
-    /// The STag is another domain's, whether it names a region there or not.
-    #[error("the STag is another domain's")]
+    /// The STag is another domain's, whether it names a region there or not, or names a region that is limited to
+    /// another stream.
+    #[error("the STag is another domain's or another stream's")]
     NotAssociated,
     /// The STag names no region, or one that was invalidated.
     #[error("the STag names no valid region")]
@@ -68,8 +69,9 @@ pub enum Deny {
 /// Why a peer may not invalidate a region: the first reason that holds.
 #[derive(Clone, Copy, Debug, PartialEq, Eq, Error)]
 pub enum InvalidateDeny {
-    /// The STag is another domain's, whether it names a region there or not.
-    #[error("the STag is another domain's")]
+    /// The STag is another domain's, whether it names a region there or not, or names a region that is limited to
+    /// another stream.
+    #[error("the STag is another domain's or another stream's")]
     NotAssociated,
     /// The STag names no region, or one that was invalidated.
     #[error("the STag names no valid region")]

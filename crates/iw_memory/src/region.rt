@@ -1,7 +1,7 @@
 ghost use Rattle.std.specs.Prelude.{◌≡◌, ◌+◌, ◌-◌, ◌<◌, ◌≤◌, ◌↔◌, IsTrue, length, IfOk};
 ghost use Rattle.std.specs.Result.{result_err};
 ghost use Rattle.std.specs.Borrow.{sem};
-ghost use Rattle.iw_memory.specs.Region.{region_denial, octets_from, Spans};
+ghost use Rattle.iw_memory.specs.Region.{region_denial_for, is_in_scope, is_bound_to, retired_region, octets_from, Spans};
 ghost use Rattle.iw_memory.specs.Lending.{LendsOctets};
 
 use crate::refusal::Deny;
@@ -18,6 +18,8 @@ pub struct Facts {
     pub len: usize,
     /// What it may be used for.
     pub rights: Rights,
+    /// The number of the stream that it is limited to (RFC 5042 6.1.1), if it is limited to one.
+    pub bound: Option<u32>,
     /// Whether peers may use it: false once it is invalidated.
     pub valid: bool,
 }
@@ -30,6 +32,7 @@ pub(crate) struct Stored<A: Allocator = Global> {
     pub(crate) base: u64,
     pub(crate) octets: Vec<u8, A>,
     pub(crate) rights: Rights,
+    pub(crate) bound: Option<u32>,
     pub(crate) valid: bool,
 }
 
@@ -41,19 +44,56 @@ impl<A: Allocator> Model for Stored<A> {
     ghost view = { λ s. record {
       domain = s.domain;
       slot = s.slot;
-      region = record { base = s.base; octets = s.octets.items; rights = s.rights; valid = s.valid };
+      region = record { base = s.base; octets = s.octets.items; rights = s.rights; bound = s.bound; valid = s.valid };
     } };
 }
 
 impl<A: Allocator> Stored<A> {
-    /// The index of the octet at tagged offset `to`, if the `n` octets from there on may be used so.
+    /// Whether this stream of the region's domain is in its scope.
     #[inline(always)]
-    pub(crate) fn place(&self, to: u64, n: usize, right: Right) -> Result<usize, Deny>
+    pub(crate) fn is_in_scope(&self, stream: Option<u32>) -> bool
+        ensures { result ≡ is_in_scope self.now.region.bound stream }
+    {
+        self.bound.is_none() || self.is_bound_to(stream)
+    }
+
+    // Whether the region is limited to this stream.
+    #[inline(always)]
+    fn is_bound_to(&self, stream: Option<u32>) -> bool
+        ensures { result ≡ is_bound_to self.now.region.bound stream }
+    {
+        match (self.bound, stream) {
+            (Some(bound), Some(stream)) => bound == stream,
+            _ => false,
+        }
+    }
+
+    /// Puts the region out of use if it is limited to this stream.
+    pub(crate) fn retire(&mut self, stream: Option<u32>)
+        ensures { self.new ≡ record self.old { region = retired_region stream self.old.region } }
+    {
+        if self.is_bound_to(stream) {
+            self.valid = false;
+        }
+    }
+
+    /// The index of the octet at tagged offset `to`, if this stream may use the `n` octets from there on so.
+    #[inline(always)]
+    pub(crate) fn place(
+        &self,
+        stream: Option<u32>,
+        to: u64,
+        n: usize,
+        right: Right,
+    ) -> Result<usize, Deny>
         requires { 0 < n }
-        ensures denied { result_err result ≡ region_denial self.now.region to n right }
+        ensures denied { result_err result ≡ region_denial_for self.now.region stream to n right }
         ensures at { IfOk result (λ at. at ≡ to - self.now.region.base) }
         ensures within { IfOk result (λ at. at + n ≤ length self.now.region.octets) }
     {
+        if !self.is_in_scope(stream) {
+            return Err(Deny::NotAssociated);
+        }
         if !self.valid {
             return Err(Deny::Invalid);
         }

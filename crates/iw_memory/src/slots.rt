@@ -1,11 +1,13 @@
 ghost use Rattle.std.specs.Prelude.{◌≡◌, ◌<◌, ◌≤◌, length, slice_index_or, slice_set};
-ghost use Rattle.std.specs.Prelude.{None, is_some, IsTrue, IfOk, OnOk, OnErr};
+ghost use Rattle.std.specs.Prelude.{Some, None, [], option_copied, is_some, IsTrue, IfOk, OnOk, OnErr};
 ghost use Rattle.std.specs.List.{position_or_len, position};
 ghost use Rattle.std.specs.Option.{option_map};
-ghost use Rattle.iw_memory.specs.Inside.{link_of, slots_in, free, is_free, with_room_at, SetsSlots};
+ghost use Rattle.iw_memory.specs.Inside.{no_places, all_places, link_of, slots_in};
+ghost use Rattle.iw_memory.specs.Inside.{free, is_free, with_room_at, SetsSlots};
 
 use iw_octets::Stag;
-use std::alloc::{AllocError, Allocator};
+use std::alloc::{AllocError, Allocator, Global};
+use std::marker::Model;
 
 /// A slot of a domain: the key of its region or of its next one, and where that region is stored.
 #[derive(Clone, Copy)]
@@ -14,12 +16,123 @@ pub(crate) struct Slot {
     pub(crate) at: Option<usize>,
 }
 
-// Where the region that the STag names is stored.
-#[inline(always)]
-pub(crate) fn find<A: Allocator>(domains: &[Option<Vec<Slot, A>>], stag: Stag) -> Option<usize>
-    ensures { result ≡ link_of domains.now stag }
+/// The slots of each domain that was added.
+#[derive(Drop)]
+pub(crate) struct Domains<A: Allocator = Global> {
+    // By domain number, up to the highest that was added.
+    places: Vec<Option<Vec<Slot, A>>, A>,
+}
+
+impl<A: Allocator> Model for Domains<A> {
+    ghost use Rattle.std.specs.Prelude.{◌≤◌, length};
+    ghost use Rattle.iw_memory.specs.Inside.{Slots, all_places};
+
+    ghost Value = { Slots };
+
+    ghost view = { λ d. all_places d.places.items };
+
+    ghost invariant = { λ d. length d.places.items ≤ 256 };
+}
+
+impl<A: Allocator> Domains<A> {
+    /// No domain.
+    pub(crate) fn new(alloc: A) -> Domains<A>
+        ensures { result ≡ no_places }
+    {
+        Domains {
+            places: Vec::new(alloc),
+        }
+    }
+
+    /// Whether the domain was added.
+    pub(crate) fn has(&self, pd: u8) -> bool
+        ensures { result ≡ is_some (slice_index_or self.now pd None) }
+    {
+        matches!(self.places.get(pd as usize), Some(Some(_)))
+    }
+
+    /// Adds a domain, which has no slots. An `Err` changes nothing.
+    pub(crate) fn add(&mut self, pd: u8) -> Result<(), AllocError>
+    where
+        A: Copy,
+        ensures ok { OnOk result (SetsSlots self.old self.new pd []) }
+        ensures err { OnErr result (self.new ≡ self.old) }
+    {
+        reach(&mut self.places, pd)?;
+        let alloc = *self.places.allocator();
+        self.places[pd as usize] = Some(Vec::new(alloc));
+        Ok(())
+    }
+
+    /// The slots of a domain that was added.
+    pub(crate) fn slots(&self, pd: u8) -> Option<&[Slot]>
+        ensures { option_copied result ≡ slice_index_or self.now pd None }
+    {
+        match self.places.get(pd as usize) {
+            Some(Some(slots)) => Some(slots.as_slice()),
+            _ => None,
+        }
+    }
+
+    /// Where the region that the STag names is stored.
+    #[inline(always)]
+    pub(crate) fn find(&self, stag: Stag) -> Option<usize>
+        ensures { result ≡ link_of self.now stag }
+    {
+        find_in(&self.places, stag)
+    }
+
+    /// The domain's lowest slot with no region, which may be the one past its last.
+    pub(crate) fn lowest_free(&self, pd: u8) -> Option<usize>
+        ensures { result ≡ option_map (position_or_len is_free) (slice_index_or self.now pd None) }
+    {
+        lowest_free_in(&self.places, pd)
+    }
+
+    /// Makes the slot of a domain that was added, if it is the one past the last, and tells its key.
+    pub(crate) fn make_room(&mut self, pd: u8, slot: usize) -> Result<u8, AllocError>
+        requires added { IsTrue (is_some (slice_index_or self.old pd None)) }
+        requires slot { slot ≤ length (slots_in self.old pd) }
+        ensures ok { OnOk result (SetsSlots self.old self.new pd (with_room_at (slots_in self.old pd) slot)) }
+        ensures key { IfOk result (λ key. key ≡ (slice_index_or (slots_in self.old pd) slot free).key) }
+        ensures err { OnErr result (self.new ≡ self.old) }
+    {
+        let Some(slots) = &mut self.places[pd as usize] else {
+            unreachable!();
+        };
+        room_for(slots, slot)
+    }
+
+    /// Sets a slot that is there.
+    pub(crate) fn set_slot(&mut self, domain: u8, slot: usize, state: Slot)
+        requires { slot < length (slots_in self.old domain) }
+        ensures { SetsSlots self.old self.new domain (slice_set (slots_in self.old domain) slot state) }
+    {
+        let Some(slots) = &mut self.places[domain as usize] else {
+            unreachable!();
+        };
+        slots[slot] = state;
+    }
+}
+
+// Makes the places up to the domain's. No domain is added. An `Err` may leave some of the places.
+fn reach<A: Allocator>(places: &mut Vec<Option<Vec<Slot, A>>, A>, pd: u8) -> Result<(), AllocError>
+    requires { length places.old.items ≤ 256 }
+    ensures ok { OnOk result (pd < length places.new.items) }
+    ensures few { length places.new.items ≤ 256 }
+    ensures same { all_places places.new.items ≡ all_places places.old.items }
 {
-    let Some(Some(slots)) = domains.get(stag.domain() as usize) else {
+    while places.len() <= pd as usize {
+        places.push(None)?;
+    }
+    Ok(())
+}
+
+#[inline(always)]
+fn find_in<A: Allocator>(places: &[Option<Vec<Slot, A>>], stag: Stag) -> Option<usize>
+    ensures { result ≡ link_of (all_places places.now) stag }
+{
+    let Some(Some(slots)) = places.get(stag.domain() as usize) else {
         return None;
     };
     let slot = slots.get(stag.slot() as usize)?;
@@ -30,14 +143,10 @@ pub(crate) fn find<A: Allocator>(domains: &[Option<Vec<Slot, A>>], stag: Stag) -
     }
 }
 
-// The domain's lowest slot with no region, which may be the one past its last.
-pub(crate) fn lowest_free_in<A: Allocator>(
-    domains: &[Option<Vec<Slot, A>>],
-    pd: u8,
-) -> Option<usize>
-    ensures { result ≡ option_map (λ v. position_or_len is_free v.items) (slice_index_or domains.now pd None) }
+fn lowest_free_in<A: Allocator>(places: &[Option<Vec<Slot, A>>], pd: u8) -> Option<usize>
+    ensures { result ≡ option_map (position_or_len is_free) (slice_index_or (all_places places.now) pd None) }
 {
-    let Some(Some(slots)) = domains.get(pd as usize) else {
+    let Some(Some(slots)) = places.get(pd as usize) else {
         return None;
     };
     Some(first_free(slots).unwrap_or(slots.len()))
@@ -47,25 +156,6 @@ fn first_free(slots: &[Slot]) -> Option<usize>
     ensures { result ≡ position is_free slots.now }
 {
     slots.iter().position(|s| s.at.is_none())
-}
-
-// Makes the slot of a domain that was added, if it is the one past the last, and tells its key.
-pub(crate) fn make_room<A: Allocator>(
-    domains: &mut Vec<Option<Vec<Slot, A>>, A>,
-    pd: u8,
-    slot: usize,
-) -> Result<u8, AllocError>
-    requires added { IsTrue (is_some (slice_index_or domains.old.items pd None)) }
-    requires slot { slot ≤ length (slots_in domains.old.items pd) }
-    ensures ok { OnOk result (SetsSlots domains.old.items domains.new.items pd
-        (with_room_at (slots_in domains.old.items pd) slot)) }
-    ensures key { IfOk result (λ key. key ≡ (slice_index_or (slots_in domains.old.items pd) slot free).key) }
-    ensures err { OnErr result (SetsSlots domains.old.items domains.new.items pd (slots_in domains.old.items pd)) }
-{
-    let Some(slots) = &mut domains[pd as usize] else {
-        unreachable!();
-    };
-    room_for(slots, slot)
 }
 
 // Makes a slot, if it is the one past the last, and tells its key.
@@ -80,21 +170,4 @@ fn room_for<A: Allocator>(slots: &mut Vec<Slot, A>, slot: usize) -> Result<u8, A
     }
     slots.push(Slot { key: 0, at: None })?;
     Ok(0)
-}
-
-// Sets a slot that is there.
-pub(crate) fn set_slot<A: Allocator>(
-    domains: &mut Vec<Option<Vec<Slot, A>>, A>,
-    domain: u8,
-    slot: usize,
-    state: Slot,
-)
-    requires { slot < length (slots_in domains.old.items domain) }
-    ensures { SetsSlots domains.old.items domains.new.items domain
-        (slice_set (slots_in domains.old.items domain) slot state) }
-{
-    let Some(slots) = &mut domains[domain as usize] else {
-        unreachable!();
-    };
-    slots[slot] = state;
 }

@@ -1,14 +1,14 @@
 -- The slab makes room, then the slots, and then the region is stored.
-use Rattle.std.proofs.Common.{◌≡◌, ◌<◌, ◌≤◌, ℕ, true, None, is_some, get_or, length, refl, sym, ap, ◌∙◌, arith}
+use Rattle.std.proofs.Common.{◌≡◌, ◌<◌, ◌≤◌, ℕ, true, None, is_some, get_or, length, sym, ap, subst, ◌∙◌, arith}
 use Rattle.std.proofs.lemmas.Option.{same_Some}
 use Rattle.std.specs.List.{position_or_len}
 use Rattle.slab.specs.Slab.{get}
-use Rattle.iw_memory.specs.Inside.{is_free, slots_in, with_room_at, IsSound}
+use Rattle.iw_memory.specs.Inside.{Slots, table_of, is_free, slots_in, with_room_at, IsSound}
 use Rattle.iw_memory.specs.Region.{new_region}
 use Rattle.iw_memory.specs.Table.{slots_of, is_added, registered}
 use Rattle.iw_memory.specs.Part.{free_slot}
 use Rattle.iw_memory.proofs.SlotLemmas.{domain_added, first_within, link_with_room, within_room, small_room}
-use Rattle.iw_memory.proofs.TableLemmas.{IsSound-same_get, IsSound-same_links, IsSound-set_slot, free_slot-table_of, is_added-table_of, slots_in-sets, table_of-same_get, table_of-sets_same, table_of-registered, same_after_insert}
+use Rattle.iw_memory.proofs.TableLemmas.{IsSound-same_get, IsSound-same_links, IsSound-set_slot, free_slot-table_of, is_added-table_of, slots_in-sets, table_of-same_get, table_of-registered, same_after_insert}
 use Rattle.iw_memory.proofs.memory.Memory.hold.Goals as goal
 
 pub invariant_of-self : goal.invariant_of-self
@@ -19,29 +19,25 @@ invariant_of-self g c = record {
 
 pub make_room-requires-clause-slot : goal.make_room-requires-clause-slot
 make_room-requires-clause-slot g c =
-    let ds = c.self.inside.domains.items in let pd = c.args.pd in
+    let ds = c.self.inside.domains in let pd = c.args.pd in
     let first : position_or_len is_free (slots_in ds pd) ≡ c.args.slot = sym (free_slot-table_of c.self.invariant.sound pd) ∙ ap (λ t. free_slot (slots_of t pd)) c.self.view_is ∙ sym c.requires.slot in
     omega (arith, first_within is_free (slots_in ds pd))
 
 pub invariant_of-self-in-Err : goal.invariant_of-self-in-Err
-invariant_of-self-in-Err g c =
-    let ds = c.self.inside.domains.items in let pd = c.args.pd in
-    let there : is_some (get_or ds pd None) ≡ true = sym (is_added-table_of ds c.self.inside.regions pd) ∙ ap (λ t. is_added t pd) c.self.view_is ∙ c.requires.added in
-    record {
-      sound = IsSound-same_links (IsSound-same_get c.self.invariant.sound (λ k. ap (λ s. get s k) c.reserve.ensures.rest_kept)) pd (slots_in ds pd) there c.in-Err.ensures.err (c.self.invariant.sound.few pd) (λ m. refl);
-      no_octets = c.self.invariant.no_octets;
-    }
+invariant_of-self-in-Err g c = record {
+  sound = subst (λ (ds : Slots). IsSound ds c.reserve.new.self) (sym c.in-Err.ensures.err) (IsSound-same_get c.self.invariant.sound (λ k. ap (λ s. get s k) c.reserve.ensures.rest_kept));
+  no_octets = c.self.invariant.no_octets;
+}
 
 pub returns-in-Err-clause-err : goal.returns-in-Err-clause-err
 returns-in-Err-clause-err g c =
-    let ds = c.self.inside.domains.items in let rs = c.self.inside.regions in
-    table_of-same_get c.make_room.new.domains.items rs c.reserve.new.self (λ k. ap (λ s. get s k) c.reserve.ensures.rest_kept)
-    ∙ table_of-sets_same ds c.make_room.new.domains.items rs c.args.pd c.in-Err.ensures.err (ap (λ t. is_added t c.args.pd) c.self.view_is ∙ c.requires.added)
+    ap (λ ds. table_of ds c.reserve.new.self) c.in-Err.ensures.err
+    ∙ table_of-same_get c.self.inside.domains c.self.inside.regions c.reserve.new.self (λ k. ap (λ s. get s k) c.reserve.ensures.rest_kept)
     ∙ c.self.view_is
 
 pub set_slot-requires : goal.set_slot-requires
 set_slot-requires g c =
-    let ds = c.self.inside.domains.items in let pd = c.args.pd in
+    let ds = c.self.inside.domains in let pd = c.args.pd in
     let there : is_some (get_or ds pd None) ≡ true = sym (is_added-table_of ds c.self.inside.regions pd) ∙ ap (λ t. is_added t pd) c.self.view_is ∙ c.requires.added in
     let first : position_or_len is_free (slots_in ds pd) ≡ c.args.slot = sym (free_slot-table_of c.self.invariant.sound pd) ∙ ap (λ t. free_slot (slots_of t pd)) c.self.view_is ∙ sym c.requires.slot in
     let small : c.args.slot ≤ length (slots_in ds pd) = omega (arith, first_within is_free (slots_in ds pd)) in
@@ -49,12 +45,12 @@ set_slot-requires g c =
 
 pub invariant_of-self-2 : goal.invariant_of-self-2
 invariant_of-self-2 g c =
-    let ds = c.self.inside.domains.items in let pd = c.args.pd in
+    let ds = c.self.inside.domains in let pd = c.args.pd in
     let there : is_some (get_or ds pd None) ≡ true = sym (is_added-table_of ds c.self.inside.regions pd) ∙ ap (λ t. is_added t pd) c.self.view_is ∙ c.requires.added in
     let first : position_or_len is_free (slots_in ds pd) ≡ c.args.slot = sym (free_slot-table_of c.self.invariant.sound pd) ∙ ap (λ t. free_slot (slots_of t pd)) c.self.view_is ∙ sym c.requires.slot in
     let small : c.args.slot ≤ length (slots_in ds pd) = omega (arith, first_within is_free (slots_in ds pd)) in
-    let within : c.args.slot < length (slots_in c.make_room.new.domains.items pd) = rw (slots_in-sets c.in-Ok.ensures.ok (domain_added ds pd there)) (within_room (slots_in ds pd) c.args.slot small) in
-    let middle : IsSound c.make_room.new.domains.items c.reserve.new.self = IsSound-same_links (IsSound-same_get c.self.invariant.sound (λ k. ap (λ s. get s k) c.reserve.ensures.rest_kept)) pd (with_room_at (slots_in ds pd) c.args.slot) there c.in-Ok.ensures.ok (small_room (slots_in ds pd) c.args.slot small c.requires.small (c.self.invariant.sound.few pd)) (link_with_room (slots_in ds pd) c.args.slot) in
+    let within : c.args.slot < length (slots_in c.make_room.new.self pd) = rw (slots_in-sets c.in-Ok.ensures.ok (domain_added ds pd there)) (within_room (slots_in ds pd) c.args.slot small) in
+    let middle : IsSound c.make_room.new.self c.reserve.new.self = IsSound-same_links (IsSound-same_get c.self.invariant.sound (λ k. ap (λ s. get s k) c.reserve.ensures.rest_kept)) pd (with_room_at (slots_in ds pd) c.args.slot) there c.in-Ok.ensures.ok (small_room (slots_in ds pd) c.args.slot small c.requires.small (c.self.invariant.sound.few pd)) (link_with_room (slots_in ds pd) c.args.slot) in
     record {
       sound = IsSound-set_slot middle pd c.args.slot _ c.set_slot.ensures within (same_after_insert middle c.insert_reserved-at.result pd c.args.slot _ c.insert_reserved-at.ensures.was_vacant c.insert_reserved-at.ensures.updates) (λ k e. record { region = _; held = ap (get c.insert_reserved-at.new.self) (sym (same_Some _ _ e)) ∙ c.insert_reserved-at.ensures.updates.changed; limits = c.requires.limits });
       no_octets = c.self.invariant.no_octets;
@@ -62,16 +58,16 @@ invariant_of-self-2 g c =
 
 pub returns-clause-ok : goal.returns-clause-ok
 returns-clause-ok g c =
-    let ds = c.self.inside.domains.items in let pd = c.args.pd in let rs = c.self.inside.regions in
+    let ds = c.self.inside.domains in let pd = c.args.pd in let rs = c.self.inside.regions in
     let there : is_some (get_or ds pd None) ≡ true = sym (is_added-table_of ds rs pd) ∙ ap (λ t. is_added t pd) c.self.view_is ∙ c.requires.added in
     let first : position_or_len is_free (slots_in ds pd) ≡ c.args.slot = sym (free_slot-table_of c.self.invariant.sound pd) ∙ ap (λ t. free_slot (slots_of t pd)) c.self.view_is ∙ sym c.requires.slot in
     let small : c.args.slot ≤ length (slots_in ds pd) = omega (arith, first_within is_free (slots_in ds pd)) in
     let kept = λ (k : ℕ). let e : get c.reserve.new.self k ≡ get rs k = ap (λ s. get s k) c.reserve.ensures.rest_kept in e in
-    let middle : IsSound c.make_room.new.domains.items c.reserve.new.self = IsSound-same_links (IsSound-same_get c.self.invariant.sound kept) pd (with_room_at (slots_in ds pd) c.args.slot) there c.in-Ok.ensures.ok (small_room (slots_in ds pd) c.args.slot small c.requires.small (c.self.invariant.sound.few pd)) (link_with_room (slots_in ds pd) c.args.slot) in
-    table_of-registered ds c.make_room.new.domains.items c.set_slot.new.domains.items c.reserve.new.self c.insert_reserved-at.new.self pd c.args.slot c.insert_reserved-at.result c.in-Ok.key _
+    let middle : IsSound c.make_room.new.self c.reserve.new.self = IsSound-same_links (IsSound-same_get c.self.invariant.sound kept) pd (with_room_at (slots_in ds pd) c.args.slot) there c.in-Ok.ensures.ok (small_room (slots_in ds pd) c.args.slot small c.requires.small (c.self.invariant.sound.few pd)) (link_with_room (slots_in ds pd) c.args.slot) in
+    table_of-registered ds c.make_room.new.self c.set_slot.new.self c.reserve.new.self c.insert_reserved-at.new.self pd c.args.slot c.insert_reserved-at.result c.in-Ok.key _
     (IsSound-same_get c.self.invariant.sound kept) (domain_added ds pd there)
     (ap (λ t. free_slot (slots_of t pd)) (table_of-same_get ds rs c.reserve.new.self kept ∙ c.self.view_is) ∙ sym c.requires.slot)
     c.in-Ok.ensures.ok c.set_slot.ensures
     (same_after_insert middle c.insert_reserved-at.result pd c.args.slot _ c.insert_reserved-at.ensures.was_vacant c.insert_reserved-at.ensures.updates)
     c.insert_reserved-at.ensures.updates.changed c.in-Ok.ensures.key
-    ∙ ap (λ t. registered t pd (new_region c.args.base c.args.octets.items c.args.rights)) (table_of-same_get ds rs c.reserve.new.self kept ∙ c.self.view_is)
+    ∙ ap (λ t. registered t pd (record (new_region c.args.base c.args.octets.items c.args.rights) { bound = c.args.bound })) (table_of-same_get ds rs c.reserve.new.self kept ∙ c.self.view_is)
