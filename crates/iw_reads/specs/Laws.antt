@@ -5,6 +5,7 @@ use Rattle.iw_octets.specs.declared.head.TaggedHead.{TaggedHead}
 use Rattle.iw_octets.specs.declared.payload.ReadRequest.{ReadRequest}
 use Rattle.iw_octets.specs.declared.stag.Stag.{Stag}
 use Rattle.iw_octets.specs.Parts.{part_at, parts_from}
+use Rattle.iw_memory.specs.declared.peer.Peer.{Peer}
 use Rattle.iw_memory.specs.Table.{Table}
 use Rattle.iw_reads.specs.declared.reads.Outstanding.{Outstanding}
 use Rattle.iw_reads.specs.declared.requests.Asked.{Asked}
@@ -48,9 +49,9 @@ pub record AnswersInOrder : Type 0 where
 
 -- if all octets that were asked for may be read, each part may be
 abbrev pub PartsMayBeFetched : Type 0
-PartsMayBeFetched = (table : Table) (pd : ℕ) (request : ReadRequest) (max offset : ℕ) →
-    14 < max → offset ≤ request.size → source_fault table pd request ≡ None →
-    fetch_fault table pd (part_of_response request (part_at request.size (max - 14) offset)) ≡ None
+PartsMayBeFetched = (table : Table) (peer : Peer) (request : ReadRequest) (max offset : ℕ) →
+    14 < max → offset ≤ request.size → source_fault table peer request ≡ None →
+    fetch_fault table peer (part_of_response request (part_at request.size (max - 14) offset)) ≡ None
 
 -- ---- at the end that asked
 

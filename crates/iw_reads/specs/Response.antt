@@ -8,6 +8,7 @@ use Rattle.iw_octets.specs.declared.part.Part.{Part}
 use Rattle.iw_octets.specs.declared.payload.ReadRequest.{ReadRequest}
 use Rattle.iw_octets.specs.Operation.{control_of, tagged_opcode}
 use Rattle.iw_octets.specs.Parts.{parts}
+use Rattle.iw_memory.specs.declared.peer.Peer.{Peer}
 use Rattle.iw_memory.specs.Table.{Table, octets_at}
 use Rattle.iw_reads.specs.declared.response.ResponsePart.{ResponsePart}
 use Rattle.iw_reads.specs.Source.{reading_fault}
@@ -36,9 +37,9 @@ part_of_response request part = record {
 abbrev pub response_parts : ReadRequest → ℕ → List ResponsePart
 response_parts request max = map (part_of_response request) (parts request.size (max - TAGGED_HEADER))
 
--- the first check that the part's octets fail, for a stream of domain pd; none if the part has no octets
-abbrev pub fetch_fault : Table → ℕ → ResponsePart → Option Fault
-fetch_fault table pd part = reading_fault table pd part.stag part.to part.n
+-- the first check that the part's octets fail, if this peer reads them; none if the part has no octets
+abbrev pub fetch_fault : Table → Peer → ResponsePart → Option Fault
+fetch_fault table peer part = reading_fault table peer part.stag part.to part.n
 
 -- its octets, as they stand in the source
 abbrev pub fetched_octets : Table → ResponsePart → List ℕ

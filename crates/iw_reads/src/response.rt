@@ -4,7 +4,7 @@ ghost use Rattle.iw_octets.specs.Head.{FitsTagged};
 ghost use Rattle.iw_reads.specs.Response.{response_head, part_of_response, fetch_fault, fetched_octets};
 
 use crate::source::readable;
-use iw_memory::Memory;
+use iw_memory::{Memory, Peer};
 use iw_octets::{DDP_VERSION, Fault, Part, ReadRequest, Stag, TaggedHead, TaggedOperation};
 use std::alloc::Allocator;
 
@@ -60,16 +60,16 @@ pub(crate) fn past_part(len: u32, offset: u32, n: usize) -> u32
     offset + n as u32
 }
 
-/// The octets of a part, lent by the region, for a stream of domain `pd`. Whether they may be read is checked again for
-/// each part (RFC 5040 7.2): the fault is the first that [`check_source`](crate::check_source) names, for these octets.
+/// The octets of a part, lent by the region, for this peer. Whether it may read them is checked again for each part
+/// (RFC 5040 7.2): the fault is the first that [`check_source`](crate::check_source) names, for these octets.
 pub fn fetch<'a, A: Allocator>(
     part: &ResponsePart,
     memory: &'a Memory<A>,
-    pd: u8,
+    peer: Peer,
 ) -> Result<&'a [u8], Fault>
-    ensures denied { result_err result ≡ fetch_fault memory.now pd part.now }
+    ensures denied { result_err result ≡ fetch_fault memory.now peer part.now }
     ensures octets { IfOk result (λ octets. octets.now ≡ fetched_octets memory.now part.now) }
     ensures len { IfOk result (λ octets. length octets.now ≡ part.now.n) }
 {
-    readable(memory, pd, part.stag, part.to, part.n)
+    readable(memory, peer, part.stag, part.to, part.n)
 }

@@ -3,24 +3,24 @@ ghost use Rattle.std.specs.Result.{result_err};
 ghost use Rattle.iw_memory.specs.Table.{octets_at};
 ghost use Rattle.iw_reads.specs.Source.{denial_fault, reading_fault, source_fault, IsInRange};
 
-use iw_memory::{Deny, Memory, Right};
+use iw_memory::{Deny, Memory, Peer, Right};
 use iw_octets::{Fault, ReadRequest, Stag};
 use std::alloc::Allocator;
 
-/// Checks that a peer in domain `pd` may read all octets that a Read asks for. The fault is the first that applies of
-/// RDMAP's protection errors: the STag belongs to another domain, it names no valid region, the offsets wrap, they leave
-/// the region, or the region does not grant the right to read (RFC 5040 5.2.1, 7.2). A Read of no octets passes whatever
-/// its STag is.
+/// Checks that this peer may read all octets that a Read asks for. The fault is the first that applies of RDMAP's
+/// protection errors: the STag belongs to another domain, or names a region that is limited to another stream; it names
+/// no valid region; the offsets wrap; they leave the region; the region does not grant the right to read (RFC 5040 5.2.1,
+/// 7.2, RFC 5042 6.1.1). A Read of no octets passes whatever its STag is.
 pub fn check_source<A: Allocator>(
     request: &ReadRequest,
     memory: &Memory<A>,
-    pd: u8,
+    peer: Peer,
 ) -> Result<(), Fault>
-    ensures fault { result_err result ≡ source_fault memory.now pd request.now }
+    ensures fault { result_err result ≡ source_fault memory.now peer request.now }
     ensures range { OnOk result (IsInRange request.now) }
 {
-    match memory.check(
-        pd,
+    match memory.check_for(
+        peer,
         request.source,
         request.source_to,
         request.size as usize,
@@ -31,19 +31,19 @@ pub fn check_source<A: Allocator>(
     }
 }
 
-/// The `n` octets from tagged offset `to` on, if a peer in domain `pd` may read them.
+/// The `n` octets from tagged offset `to` on, if this peer may read them.
 pub(crate) fn readable<'a, A: Allocator>(
     memory: &'a Memory<A>,
-    pd: u8,
+    peer: Peer,
     stag: Stag,
     to: u64,
     n: usize,
 ) -> Result<&'a [u8], Fault>
-    ensures denied { result_err result ≡ reading_fault memory.now pd stag to n }
+    ensures denied { result_err result ≡ reading_fault memory.now peer stag to n }
     ensures octets { IfOk result (λ octets. octets.now ≡ octets_at memory.now stag to n) }
     ensures len { IfOk result (λ octets. length octets.now ≡ n) }
 {
-    match memory.part(pd, stag, to, n, Right::Read) {
+    match memory.part_for(peer, stag, to, n, Right::Read) {
         Ok(octets) => Ok(octets),
         Err(deny) => Err(fault_of(deny)),
     }

@@ -2,9 +2,10 @@
 use Rattle.std.specs.Prelude.{ℕ, None, ◌↔◌, ◌≡◌, ◌<◌, ◌≤◌, ◌-◌, true, false, List, [], ◌∷◌, ◌++◌, length, take, drop, map, replicate, All}
 use Rattle.std.specs.List.{flat_map}
 use Rattle.iw_octets.specs.declared.head.TaggedHead.{TaggedHead}
+use Rattle.iw_memory.specs.declared.peer.Peer.{Peer}
 use Rattle.iw_memory.specs.declared.rights.Right.{Right}
 use Rattle.iw_memory.specs.Table.{Table}
-use Rattle.iw_memory.specs.Laws.{Allows}
+use Rattle.iw_memory.specs.Laws.{AllowsFor}
 use Rattle.iw_octets.specs.declared.part.Part.{Part}
 use Rattle.iw_octets.specs.Parts.{parts, full_count}
 use Rattle.iw_tagged.specs.Placing.{placing_fault}
@@ -32,7 +33,7 @@ pub record KnownParts : Type 0 where
   pub two_full : parts 228 (128 - 14) ≡ record { offset = 0; n = 114; last = false } ∷ record { offset = 114; n = 114; last = true } ∷ []
   pub two : parts 492 (502 - 14) ≡ record { offset = 0; n = 488; last = false } ∷ record { offset = 488; n = 4; last = true } ∷ []
 
--- a segment passes exactly if a peer of the stream's domain may use the region so
+-- a segment passes exactly if the peer that sent it may use the region so
 abbrev pub PassesWhereAllowed : Type 0
-PassesWhereAllowed = (table : Table) (pd : ℕ) (head : TaggedHead) (n : ℕ) (right : Right) →
-    (placing_fault table pd head n right ≡ None) ↔ Allows table pd head.stag head.to n right
+PassesWhereAllowed = (table : Table) (peer : Peer) (head : TaggedHead) (n : ℕ) (right : Right) →
+    (placing_fault table peer head n right ≡ None) ↔ AllowsFor table peer head.stag head.to n right

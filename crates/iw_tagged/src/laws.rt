@@ -10,7 +10,7 @@ pub fn known_parts()
     ensures { KnownParts }
 {}
 
-/// `check` answers `Ok` exactly if a peer of the stream's domain may use the region so (RFC 5042).
+/// `check` answers `Ok` exactly if the peer may use the region so (RFC 5042).
 pub fn passes_where_allowed()
     ensures { PassesWhereAllowed }
 {}

@@ -5,7 +5,7 @@ ghost use Rattle.iw_octets.specs.Pieces.{AddUpTo, JoinTo};
 ghost use Rattle.iw_memory.specs.Table.{put};
 ghost use Rattle.iw_tagged.specs.Placing.{denial_fault, placing_fault};
 
-use iw_memory::{Deny, Memory, Right};
+use iw_memory::{Deny, Memory, Peer, Right};
 use iw_octets::{Fault, Stag, TaggedHead, gather};
 use std::alloc::Allocator;
 
@@ -17,22 +17,23 @@ pub struct Placed {
     pub n: usize,
 }
 
-/// `Ok` if a segment with this header and `n` octets of payload may be placed, on a stream of domain `pd`. Ask for the
-/// right `Write` for an RDMA Write, and `Sink` for a Read Response. With no octets nothing is checked.
+/// `Ok` if a segment from this peer with this header and `n` octets of payload may be placed. Ask for the right `Write`
+/// for an RDMA Write, and `Sink` for a Read Response. With no octets nothing is checked.
 ///
-/// The `Err` is the first of these that applies: the STag is another domain's; it names no valid region; the tagged
-/// offset wraps; the octets lie outside the region; the region does not grant the right (RFC 5041 7.1, RFC 5040 4.8).
+/// The `Err` is the first of these that applies: the STag is another domain's, or names a region that is limited to
+/// another stream; it names no valid region; the tagged offset wraps; the octets lie outside the region; the region does
+/// not grant the right (RFC 5041 7.1, RFC 5040 4.8, RFC 5042 6.1.1).
 #[inline(always)]
 pub fn check<A: Allocator>(
     head: TaggedHead,
     n: usize,
     memory: &Memory<A>,
-    pd: u8,
+    peer: Peer,
     right: Right,
 ) -> Result<(), Fault>
-    ensures { result_err result ≡ placing_fault memory.now pd head n right }
+    ensures { result_err result ≡ placing_fault memory.now peer head n right }
 {
-    match memory.check(pd, head.stag, head.to, n, right) {
+    match memory.check_for(peer, head.stag, head.to, n, right) {
         Ok(()) => Ok(()),
         Err(deny) => Err(fault_of(deny)),
     }
@@ -46,21 +47,21 @@ pub fn place<'a, A: Allocator, I: Iterator<Item = &'a [u8]>>(
     n: usize,
     pieces: I,
     memory: &mut Memory<A>,
-    pd: u8,
+    peer: Peer,
     right: Right,
 ) -> Result<Placed, Fault>
     requires can { I.can_next pieces }
     requires ends { IsFinite (I.remaining pieces) }
     requires fits { AddUpTo I.next_gives pieces n }
-    ensures refused { result_err result ≡ placing_fault memory.old pd head n right }
+    ensures refused { result_err result ≡ placing_fault memory.old peer head n right }
     ensures placed { IfOk result (λ placed. placed ≡ record { stag = head.stag; to = head.to; n = n }) }
     ensures ok { OnOk result ((octets : List ℕ) × JoinTo I.next_gives pieces octets
         × (memory.new ≡ put memory.old head.stag head.to octets)) }
     ensures err { OnErr result (memory.new ≡ memory.old) }
 {
     let TaggedHead { stag, to, .. } = head;
-    check(head, n, memory, pd, right)?;
-    gather(pieces, memory.part_mut(pd, stag, to, n, right));
+    check(head, n, memory, peer, right)?;
+    gather(pieces, memory.part_mut_for(peer, stag, to, n, right));
     Ok(Placed { stag, to, n })
 }
 

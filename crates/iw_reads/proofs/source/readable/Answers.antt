@@ -6,4 +6,4 @@ use Rattle.iw_reads.proofs.source.readable.Goals as goal
 
 pub returns-in-Ok-clause-len : goal.returns-in-Ok-clause-len
 returns-in-Ok-clause-len g c =
-    ap length c.in-Ok.ensures.octets ∙ length-octets_at c.args.memory.now c.args.pd c.args.stag c.args.to c.args.n Read (search rules)
+    ap length c.in-Ok.ensures.octets ∙ length-octets_at c.args.memory.now c.args.peer c.args.stag c.args.to c.args.n Read (search rules)
