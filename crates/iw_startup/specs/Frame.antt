@@ -3,6 +3,7 @@
 use Rattle.std.specs.Prelude.{ℕ, ◌+◌, ◌*◌, ◌/◌, ◌%◌, ◌==◌, ◌&&◌, Bool, true, false, not, nat_le, List, [], ◌∷◌, ◌++◌, length, codes, bit_and, slice_index, Option, Some, None, if◌then◌else◌}
 use Rattle.iw_startup.specs.declared.config.Establishment.{Establishment}
 use Rattle.iw_startup.specs.declared.config.Establishment.TheVariants.{Plain, Enhanced, PeerToPeer}
+use Rattle.iw_startup.specs.declared.config.PeerOptions.{PeerOptions}
 use Rattle.iw_startup.specs.declared.enhanced.EnhancedData.{EnhancedData}
 use Rattle.iw_startup.specs.declared.enhanced.Revision.{Revision}
 use Rattle.iw_startup.specs.declared.enhanced.Revision.TheVariants.{One, Two}
@@ -104,6 +105,10 @@ data_in octets = record {
 -- the word, where there is one
 abbrev pub told : Establishment → List ℕ → Option EnhancedData
 told establishment octets = if has_word establishment octets then Some (data_in octets) else None
+
+-- what it asks for: markers in what the other end sends, CRCs, and a revision
+abbrev pub options_in : List ℕ → PeerOptions
+options_in octets = record { markers = asks_markers octets; crc = asks_crc octets; revision = slice_index octets 17 }
 
 -- the place of the user's private data
 abbrev pub private_at : Establishment → List ℕ → ℕ

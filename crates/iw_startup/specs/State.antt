@@ -4,6 +4,7 @@ use Rattle.arrayvec.specs.ArrayVec.{ArrayVec}
 use Rattle.iw_startup.specs.declared.config.Agreed.{Agreed}
 use Rattle.iw_startup.specs.declared.config.Config.{Config}
 use Rattle.iw_startup.specs.declared.config.Establishment.{Establishment}
+use Rattle.iw_startup.specs.declared.config.PeerOptions.{PeerOptions}
 use Rattle.iw_startup.specs.declared.enhanced.EnhancedData.{EnhancedData}
 use Rattle.iw_startup.specs.declared.enhanced.Mismatch.{Mismatch}
 use Rattle.iw_startup.specs.declared.progress.Progress.{Progress}
@@ -13,7 +14,7 @@ use Rattle.iw_startup.specs.declared.side.Reply.TheVariants.{Accept, Reject}
 use Rattle.iw_startup.specs.declared.side.Side.{Side}
 use Rattle.iw_startup.specs.declared.side.Side.TheVariants.{Initiator, Responder}
 use Rattle.iw_startup.specs.Enhanced.{at_responder, asked_revision, in_kind, agreed_ord, rtr_due, mismatch_in}
-use Rattle.iw_startup.specs.Frame.{request_key, reply_key, start_frame, asks_markers, asks_crc, told, private_at, private_room, revision_of}
+use Rattle.iw_startup.specs.Frame.{request_key, reply_key, start_frame, asks_markers, asks_crc, told, options_in, private_at, private_room, revision_of}
 use Rattle.iw_startup.specs.Peer.{frame_end, frame_part, is_whole, is_read, progress_of}
 
 pub record StartupState : Type 0 where
@@ -53,6 +54,10 @@ private_of s = if is_whole s.config.establishment s.side s.octets then drop (pri
 -- the peer's word of IRD and ORD, once its frame was read
 unfoldable pub told_of : StartupState → Option EnhancedData
 told_of s = if is_read s.config.establishment s.side s.octets then told s.config.establishment s.octets else None
+
+-- what the peer asks for, once its frame was read
+unfoldable pub options_of : StartupState → Option PeerOptions
+options_of s = if is_read s.config.establishment s.side s.octets then Some (options_in s.octets) else None
 
 abbrev pub is_responder : Side → Bool
 is_responder Initiator = false

@@ -43,6 +43,17 @@ pub struct Config {
     pub private: PrivateData,
 }
 
+/// What the peer asks for in its start-up frame.
+#[derive(Clone, Copy, Debug, PartialEq, Eq)]
+pub struct PeerOptions {
+    /// This end is to put markers into what it sends (M, RFC 5044 7.1.1).
+    pub markers: bool,
+    /// CRCs are to be used, in both directions (C).
+    pub crc: bool,
+    /// The revision of MPA: 1 or 2.
+    pub revision: u8,
+}
+
 /// What the two frames agree on, as this end sees it (RFC 5044 7.1.1, RFC 6581 9).
 #[derive(Clone, Copy, Debug, PartialEq, Eq)]
 pub struct Agreed {

@@ -3,11 +3,13 @@ ghost use Rattle.std.specs.Prelude.{◌≡◌, ◌+◌, ◌-◌, ◌≤◌, ◌+
 ghost use Rattle.std.specs.Prelude.{drop, if◌then◌else◌};
 ghost use Rattle.arrayvec.specs.ArrayVec.{array_vec_len};
 ghost use Rattle.iw_startup.specs.Frame.{flags, half, half_at, word_octets, headed, start_frame};
-ghost use Rattle.iw_startup.specs.Frame.{has_flag, has_revision, has_word, private_len, private_at, data_in, told, revision_of};
+ghost use Rattle.iw_startup.specs.Frame.{has_flag, has_revision, has_word, private_len, private_at, data_in, told, options_in, revision_of};
 ghost use Rattle.iw_startup.specs.Peer.{takes_revision, is_bad_length, fixed_fault, frame_end, is_whole, is_read, progress_of};
 ghost use Rattle.iw_startup.specs.State.{agreement};
 
-use crate::config::{Agreed, Establishment, FIXED_OCTETS, MAX_FRAME, PrivateData, WORD_OCTETS};
+use crate::config::{
+    Agreed, Establishment, FIXED_OCTETS, MAX_FRAME, PeerOptions, PrivateData, WORD_OCTETS,
+};
 use crate::enhanced::{EnhancedData, Revision};
 use crate::negotiation::{agreed_ord, rtr_due};
 use crate::own::Own;
@@ -329,6 +331,17 @@ pub(crate) fn private_in<'a>(own: &Own, octets: &'a [u8]) -> &'a [u8]
         FIXED_OCTETS
     };
     octets.get(at..).unwrap_or(&[])
+}
+
+/// What the peer's frame asks for.
+pub(crate) fn options_in(octets: &[u8]) -> PeerOptions
+    ensures { result ≡ options_in octets.now }
+{
+    PeerOptions {
+        markers: flag_is_set(MARKERS, octets),
+        crc: flag_is_set(CRC, octets),
+        revision: octet_at(octets, REVISION_AT),
+    }
 }
 
 // What this end's frame and the peer's agree on.

@@ -16,7 +16,8 @@ mod side;
 mod startup;
 
 pub use config::{
-    Agreed, Config, Establishment, FIXED_OCTETS, MAX_ENHANCED_PRIVATE, MAX_FRAME, PrivateData,
+    Agreed, Config, Establishment, FIXED_OCTETS, MAX_ENHANCED_PRIVATE, MAX_FRAME, PeerOptions,
+    PrivateData,
 };
 pub use enhanced::{EnhancedData, Mismatch, Rtr};
 pub use iw_octets::MAX_PRIVATE;

@@ -5,9 +5,11 @@ ghost use Rattle.iw_startup.specs.Enhanced.{asked_revision};
 ghost use Rattle.iw_startup.specs.Frame.{private_room, revision_of};
 ghost use Rattle.iw_startup.specs.Peer.{progress_of};
 ghost use Rattle.iw_startup.specs.State.{begun, is_responder, pushed, used, progress, IsReached};
-ghost use Rattle.iw_startup.specs.State.{private_of, told_of, frame_of, agreement, agreed_of, mismatch_of, awaits_answer, answered, answer_room};
+ghost use Rattle.iw_startup.specs.State.{private_of, told_of, options_of, frame_of, agreement, agreed_of, mismatch_of, awaits_answer, answered, answer_room};
 
-use crate::config::{Agreed, Config, FIXED_OCTETS, MAX_ENHANCED_PRIVATE, MAX_FRAME, PrivateData};
+use crate::config::{
+    Agreed, Config, FIXED_OCTETS, MAX_ENHANCED_PRIVATE, MAX_FRAME, PeerOptions, PrivateData,
+};
 use crate::enhanced::{EnhancedData, Mismatch};
 use crate::own::Own;
 use crate::progress::Progress;
@@ -180,6 +182,18 @@ impl Startup {
             return None;
         }
         frame::told(&self.own, octets)
+    }
+
+    /// What the peer asks for in its frame, once that was read: also where a Reply rejects.
+    #[tactic(auto, unfolding(crate::specs::State::options_of))]
+    pub fn peer_options(&self) -> Option<PeerOptions>
+        ensures { result ≡ options_of self.now }
+    {
+        let octets = self.octets.as_slice();
+        if frame::is_read(&self.own, octets) {
+            return Some(frame::options_in(octets));
+        }
+        None
     }
 
     /// How many octets the frame has that this end sends.
