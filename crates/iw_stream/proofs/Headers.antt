@@ -89,14 +89,14 @@ kept_buffer r u has = go (read_segment u) refl has
 pub payload_kept : (frame : Frame) (segment : Segment (List ℕ)) → segment_in frame ≡ Some segment → payload_len (placed frame) ≡ length (payload_of (Some segment))
 payload_kept frame segment e = (header_read frame.ulpdu segment e).rest
 
-bare_turn : (at : Standing) (n : ℕ) (segment : Segment (List ℕ)) → segment_turn at.table at.domain at.receiving at.reads n (Some (bare segment)) ≡ segment_turn at.table at.domain at.receiving at.reads n (Some segment)
+bare_turn : (at : Standing) (n : ℕ) (segment : Segment (List ℕ)) → segment_turn at.table at.peer at.receiving at.reads n (Some (bare segment)) ≡ segment_turn at.table at.peer at.receiving at.reads n (Some segment)
 bare_turn at n (Tagged head payload) = refl
 bare_turn at n (Untagged head payload) = refl
 
 pub turn_kept : (at : Standing) (frame : Frame) (segment : Segment (List ℕ)) → segment_in frame ≡ Some segment
-    → turn_of at (placed frame) ≡ segment_turn at.table at.domain at.receiving at.reads (length (payload_of (Some segment))) (Some segment)
+    → turn_of at (placed frame) ≡ segment_turn at.table at.peer at.receiving at.reads (length (payload_of (Some segment))) (Some segment)
 turn_kept at frame segment e =
-    (λ i. segment_turn at.table at.domain at.receiving at.reads (payload_kept frame segment e i) ((header_read frame.ulpdu segment e).read i)) ∙ bare_turn at (length (payload_of (Some segment))) segment
+    (λ i. segment_turn at.table at.peer at.receiving at.reads (payload_kept frame segment e i) ((header_read frame.ulpdu segment e).read i)) ∙ bare_turn at (length (payload_of (Some segment))) segment
 
 bare_turned : (r : Receiving) (n : ℕ) (segment : Segment (List ℕ)) → turned_by r n (Some (bare segment)) ≡ turned_by r n (Some segment)
 bare_turned r n (Tagged head payload) = refl

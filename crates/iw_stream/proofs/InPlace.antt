@@ -1,12 +1,10 @@
 -- Octets that are read in place.
-use Rattle.std.proofs.Common.{◌≡◌, ℕ, ◌+◌, ◌-◌, ◌<◌, ◌≤◌, Bool, true, false, List, take, length, get_or, Option, sym, ap, ◌∙◌, subst, arith, inl, inr}
-use Rattle.std.specs.Prelude.{not, MatchBool}
+use Rattle.std.proofs.Common.{◌≡◌, ℕ, ◌+◌, ◌-◌, ◌<◌, ◌≤◌, Bool, true, false, List, take, length, get_or, Option, None, refl, sym, ap, ◌∙◌, subst, arith}
+use Rattle.std.specs.Prelude.{MatchBool, slice_index}
 use Rattle.std.specs.Io.KnownBytes.{Consumes}
-use Rattle.std.proofs.lemmas.List.{get_or_past, length-take-le}
-use Rattle.std.proofs.lemmas.Bool.{cases_lt, true≢false}
+use Rattle.std.proofs.lemmas.List.{length-take-le}
 use Rattle.iw_ranges.specs.declared.Delivery.TheVariants.{Kept}
-use Rattle.iw_ranges.specs.Arrived.{Arrived, Held, Missing, cell_at, has_come, is_missing, delivery, delivered, end_of, HasNoGap, IsReadyFor, window}
-use Rattle.iw_ranges.proofs.ByPlace.{beyond}
+use Rattle.iw_ranges.specs.Arrived.{Arrived, Held, delivery, delivered, end_of, IsReadyFor, window}
 use Rattle.iw_locate.specs.declared.unsearched.Unsearched.{Unsearched}
 use Rattle.iw_locate.specs.Free.{scene_of}
 use Rattle.iw_locate.specs.Keeping.{Keeps}
@@ -15,28 +13,9 @@ use Rattle.iw_locate.proofs.Delivering.{delivery_keeps}
 use Rattle.iw_stream.specs.Incoming.{Coming, IsTracked, scene_in}
 use Rattle.iw_stream.specs.Reading.{Brings}
 
--- ---- the first place that is missing
-past_missing : (a : Arrived) (p : ℕ) → end_of a ≤ p → has_come a p ≡ false
-past_missing a p high = ap (λ c. not (is_missing c)) (beyond a p (omega arith) ∙ get_or_past a.cells (p - a.floor) Missing (omega arith))
-
-pub missing_within : (a : Arrived) (m : ℕ) → ((p : ℕ) → p < m → has_come a p ≡ true) → m ≤ end_of a
-missing_within a m come =
-    elim (cases_lt (end_of a) m) [
-      | inl far ↦ absurd (true≢false (sym (come (end_of a) far) ∙ past_missing a (end_of a) (omega arith)))
-      | inr near ↦ near
-    ]
-
-pub missing_last : (a : Arrived) (m : ℕ) → ((p : ℕ) → p < m → has_come a p ≡ true) → cell_at a m ≡ Missing → HasNoGap a → m ≡ end_of a
-missing_last a m come missing order =
-    let most = missing_within a m come in
-    elim (cases_lt m (end_of a)) [
-      | inl before ↦ absurd (true≢false (sym (order m before) ∙ ap (λ c. not (is_missing c)) missing))
-      | inr past ↦ omega (arith, most, past)
-    ]
-
 -- ---- what was read is counted
 less_ready : (h : Held) (n got : ℕ) → IsReadyFor n h → got ≤ n → IsReadyFor got h
-less_ready h n got ready few = record { order = ready.order; near = omega (arith, ready.near, few); stand = omega (arith, ready.stand, few) }
+less_ready h n got ready few = record { near = omega (arith, ready.near, few); stand = omega (arith, ready.stand, few) }
 
 pub brings : (h : Held) (old new : Arrived) (n got place : ℕ) (before after : Option (List ℕ)) (counts : Bool) → h.arrived ≡ old → IsReadyFor n h → got ≤ n → 0 < got → place ≡ end_of h.arrived
     → Consumes before after (take got h.ahead)
@@ -70,3 +49,24 @@ tracked_in_place s now after place n u before rest t same at b told =
       tells = subst (λ (x : Unsearched). Tells (scene_of s.layout s.base after s.early) x) (ap (λ k. with_octets s.unsearched (place - s.base) (place + k - s.base)) b.len ∙ sym told)
           (subst (λ (a : Arrived). Tells (scene_of s.layout s.base a s.early) (with_octets s.unsearched (place - s.base) (place + length b.octets - s.base))) there d.1);
     }
+
+-- ---- what stood there is counted
+pub counted_in_place : (h : Held) (new : Arrived) (n place : ℕ) (counts : Bool) → 0 < n → place ≡ end_of h.arrived → place ≤ h.arrived.floor + window
+    → MatchBool counts (new ≡ delivered h.arrived place (take n h.ahead)) (new ≡ h.arrived)
+    → (counts ≡ true → delivery h.arrived place n ≡ Kept)
+    → (counts ≡ true → n ≤ length h.ahead)
+    → (counts ≡ true → (k : ℕ) → slice_index (take n h.ahead) k < 256)
+    → MatchBool counts ((0 < n) × Brings h.arrived new None None n) (new ≡ h.arrived)
+counted_in_place h new n place false some at near counted kept stood small = counted
+counted_in_place h new n place true some at near counted kept stood small = (
+  some,
+  record {
+    octets = take n h.ahead;
+    len = length-take-le n h.ahead (stood refl);
+    given = tt;
+    taken = counted ∙ ap (λ p. delivered h.arrived p (take n h.ahead)) at;
+    kept = sym (ap (λ p. delivery h.arrived p n) at) ∙ kept refl;
+    near = subst (λ p. p ≤ h.arrived.floor + window) at near;
+    small = small refl;
+  },
+)

@@ -588,5 +588,5 @@ may_take at found request e = let j = frame_judged at (frame_by found) (landings
     go (heads.Request head asked) j h =
         let parts = passes _ _ _ h in
         let same : asked ≡ request = let w = parts.1 in cc in
-        record { header = (header_read (ulpdu found) (Untagged head j.0.payload) j.0.is).len; room = j.1; range = subst IsInRange same (in_range at.table at.domain asked parts.0) }
+        record { header = (header_read (ulpdu found) (Untagged head j.0.payload) j.0.is).len; room = j.1; range = subst IsInRange same (in_range at.table at.peer asked parts.0) }
     go (heads.Terminate head word) j h = absurd (let no : ⊥ = cc in no)

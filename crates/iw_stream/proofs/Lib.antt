@@ -2,6 +2,7 @@ pub mod Again
 pub mod Heads
 pub mod Headers
 pub mod Buffers
+pub mod Calm
 pub mod Landings
 pub mod Tagged
 pub mod Fronts

@@ -63,6 +63,7 @@ waits u e = waits_at u.config u.side u.octets e
 abbrev pub fresh : ℕ → StartState → Queue → Numbers → Receiving → List Outstanding → Requested → Arrived → List EarlyRecord → StreamState
 fresh domain start queue numbers receiving reads asked arrived early = record {
   domain = domain;
+  number = None;
   start = start;
   mulpdu = 1400;
   queue = queue;

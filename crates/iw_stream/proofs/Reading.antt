@@ -1,5 +1,5 @@
 -- The Reads of this end, and the requests of the peer.
-use Rattle.std.proofs.Common.{◌≡◌, ◌≢◌, ℕ, zero, suc, ◌+◌, ◌<◌, ◌≤◌, ◌^◌, Bool, true, false, not, nat_lt, if◌then◌else◌, List, [], ◌∷◌, ◌++◌, length, Option, Some, None, Ok, refl, sym, ap, ◌∙◌, subst, arith}
+use Rattle.std.proofs.Common.{◌≡◌, ◌≢◌, ℕ, zero, suc, ◌+◌, ◌<◌, ◌≤◌, ◌^◌, Bool, true, false, not, nat_lt, if◌then◌else◌, List, [], ◌∷◌, ◌++◌, length, Option, Some, None, Ok, refl, sym, ap, subst, arith}
 use Rattle.std.specs.Prelude.{◌==◌}
 use Rattle.std.specs.Option.{option_map, option_map_or}
 use Rattle.std.specs.List.{slice_get}
@@ -12,12 +12,13 @@ use Rattle.iw_octets.specs.declared.segment.Segment.TheVariants.{Tagged, Untagge
 use Rattle.iw_octets.specs.declared.payload.ReadRequest.{ReadRequest}
 use Rattle.iw_octets.specs.declared.stag.Stag.{Stag}
 use Rattle.iw_octets.specs.Operation.{opcode_of, untagged_operation}
+use Rattle.iw_memory.specs.declared.peer.Peer.{Peer}
 use Rattle.iw_memory.specs.declared.refusal.Deny.{Deny}
 use Rattle.iw_memory.specs.declared.refusal.Deny.TheVariants as denials
 use Rattle.iw_memory.specs.declared.rights.Right.TheVariants as rights
 use Rattle.iw_memory.specs.Part.{own_region}
-use Rattle.iw_memory.specs.Region.{Region, region_denial}
-use Rattle.iw_memory.specs.Table.{Table, denial, part_of}
+use Rattle.iw_memory.specs.Region.{Region, is_in_scope, region_denial, region_denial_for}
+use Rattle.iw_memory.specs.Table.{Table, denial_for, part_of}
 use Rattle.iw_queues.specs.declared.completions.Done.{Done}
 use Rattle.iw_queues.specs.declared.completions.Sent.{Sent}
 use Rattle.iw_queues.specs.declared.request.Request.{Request}
@@ -220,11 +221,11 @@ no_answer None true solicited invalidate ticket e = cc
 no_answer None false solicited invalidate ticket e = cc
 no_answer (Some fault) last solicited invalidate ticket e = cc
 
-is_answer : (table : Table) (domain : ℕ) (r : Receiving) (reads : List Outstanding) (n : ℕ) (o : Option (Segment (List ℕ))) (ticket : ℕ) → segment_turn table domain r reads n o ≡ Ok (turnings.Answered ticket) → IsAnswer reads n o ticket
-is_answer table domain r reads n None ticket e = absurd (let no : ⊥ = cc in no)
-is_answer table domain r reads n (Some (Untagged head payload)) ticket e =
-    absurd (no_answer (or_else (turn_fault r head.msn head.mo) (invalidation_fault table domain (send_turning head))) head.last (is_solicited (untagged_operation (opcode_of head.control))) (stag_to_invalidate head) ticket e)
-is_answer table domain r reads n (Some (Tagged head payload)) ticket e = go (is_response head) refl e
+is_answer : (table : Table) (peer : Peer) (r : Receiving) (reads : List Outstanding) (n : ℕ) (o : Option (Segment (List ℕ))) (ticket : ℕ) → segment_turn table peer r reads n o ≡ Ok (turnings.Answered ticket) → IsAnswer reads n o ticket
+is_answer table peer r reads n None ticket e = absurd (let no : ⊥ = cc in no)
+is_answer table peer r reads n (Some (Untagged head payload)) ticket e =
+    absurd (no_answer (or_else (turn_fault r head.msn head.mo) (invalidation_fault table peer (send_turning head))) head.last (is_solicited (untagged_operation (opcode_of head.control))) (stag_to_invalidate head) ticket e)
+is_answer table peer r reads n (Some (Tagged head payload)) ticket e = go (is_response head) refl e
   where
     go : (b : Bool) → is_response head ≡ b → (if b then fault_or (response_turn_fault reads head n) (answering_by (finished_read reads head)) else Ok turnings.Passed) ≡ Ok (turnings.Answered ticket)
         → IsAnswer reads n (Some (Tagged head payload)) ticket
@@ -235,14 +236,14 @@ is_answer table domain r reads n (Some (Tagged head payload)) ticket e = go (is_
     }
     go false is h = absurd (let no : ⊥ = cc in no)
 
-pub awaits_answered : (c : completions.Outstanding) (table : Table) (domain : ℕ) (r : Receiving) (reads : List Outstanding) (n : ℕ) (o : Option (Segment (List ℕ))) (ticket : ℕ) → AreAwaited c reads
-    → segment_turn table domain r reads n o ≡ Ok (turnings.Answered ticket) → IsAwaited c ticket
-awaits_answered c table domain r reads n o ticket a e = let is = is_answer table domain r reads n o ticket e in awaits_oldest c reads is.head ticket a is.finished
+pub awaits_answered : (c : completions.Outstanding) (table : Table) (peer : Peer) (r : Receiving) (reads : List Outstanding) (n : ℕ) (o : Option (Segment (List ℕ))) (ticket : ℕ) → AreAwaited c reads
+    → segment_turn table peer r reads n o ≡ Ok (turnings.Answered ticket) → IsAwaited c ticket
+awaits_answered c table peer r reads n o ticket a e = let is = is_answer table peer r reads n o ticket e in awaits_oldest c reads is.head ticket a is.finished
 
-pub awaited_answered : (c : completions.Outstanding) (table : Table) (domain : ℕ) (r : Receiving) (reads : List Outstanding) (n : ℕ) (o : Option (Segment (List ℕ))) (ticket : ℕ) → c.first < 2 ^ 64 → AreAwaited c reads
-    → segment_turn table domain r reads n o ≡ Ok (turnings.Answered ticket) → AreAwaited (completions.finished c ticket) (left_by_turn reads n o)
-awaited_answered c table domain r reads n o ticket first a e =
-    let is = is_answer table domain r reads n o ticket e in
+pub awaited_answered : (c : completions.Outstanding) (table : Table) (peer : Peer) (r : Receiving) (reads : List Outstanding) (n : ℕ) (o : Option (Segment (List ℕ))) (ticket : ℕ) → c.first < 2 ^ 64 → AreAwaited c reads
+    → segment_turn table peer r reads n o ≡ Ok (turnings.Answered ticket) → AreAwaited (completions.finished c ticket) (left_by_turn reads n o)
+awaited_answered c table peer r reads n o ticket first a e =
+    let is = is_answer table peer r reads n o ticket e in
     subst (AreAwaited (completions.finished c ticket)) (sym is.left) (awaited_finished c reads is.head n ticket first a is.finished)
 
 -- ---- the source of a request
@@ -259,22 +260,22 @@ region_range r to n e =
     fits : (x : ℕ) → nat_lt (2 ^ 64) x ≡ false → x ≤ 2 ^ 64
     fits x t = grind (arith, nat_tests)
 
-pub in_range : (table : Table) (domain : ℕ) (request : ReadRequest) → source_fault table domain request ≡ None → IsInRange request
-in_range table domain request e some = go (request.size == 0) refl (none (denial table domain request.source request.source_to request.size rights.Read) e)
+pub in_range : (table : Table) (peer : Peer) (request : ReadRequest) → source_fault table peer request ≡ None → IsInRange request
+in_range table peer request e some = go (request.size == 0) refl (none (denial_for table peer request.source request.source_to request.size rights.Read) e)
   where
     none : (o : Option Deny) → option_map denial_fault o ≡ None → o ≡ None
     none None h = refl
     none (Some deny) h = absurd (let no : ⊥ = cc in no)
 
-    region : (o : Option Region) → option_map_or (λ r. region_denial r request.source_to request.size rights.Read) o (Some denials.Invalid) ≡ None → request.source_to + request.size ≤ 2 ^ 64
+    region : (o : Option Region) → option_map_or (λ r. region_denial_for r peer.stream request.source_to request.size rights.Read) o (Some denials.Invalid) ≡ None → request.source_to + request.size ≤ 2 ^ 64
     region None h = absurd (let no : ⊥ = cc in no)
-    region (Some r) h = region_range r request.source_to request.size h
+    region (Some r) h = region_range r request.source_to request.size (chosen (not (is_in_scope r.bound peer.stream)) denials.NotAssociated _ h).1
 
     empty : (request.size == 0) ≡ true → ⊥
     empty t = (let low = some in grind (arith, nat_tests))
 
     go : (b : Bool) → (request.size == 0) ≡ b
-        → (if b then None else (if not (request.source.domain == domain) then Some denials.NotAssociated else option_map_or (λ r. region_denial r request.source_to request.size rights.Read) (own_region (part_of table domain) request.source) (Some denials.Invalid))) ≡ None
+        → (if b then None else (if not (request.source.domain == peer.domain) then Some denials.NotAssociated else option_map_or (λ r. region_denial_for r peer.stream request.source_to request.size rights.Read) (own_region (part_of table peer.domain) request.source) (Some denials.Invalid))) ≡ None
         → request.source_to + request.size ≤ 2 ^ 64
     go true is h = absurd (empty is)
-    go false is h = region (own_region (part_of table domain) request.source) (chosen (not (request.source.domain == domain)) denials.NotAssociated _ h).1
+    go false is h = region (own_region (part_of table peer.domain) request.source) (chosen (not (request.source.domain == peer.domain)) denials.NotAssociated _ h).1

@@ -13,6 +13,7 @@ use Rattle.iw_octets.specs.declared.segment.Segment.TheVariants.{Tagged}
 use Rattle.iw_octets.specs.Head.{is_tagged}
 use Rattle.iw_octets.specs.Operation.{opcode_of, tagged_operation}
 use Rattle.iw_octets.specs.Segment.{read_segment}
+use Rattle.iw_memory.specs.declared.peer.Peer.{Peer}
 use Rattle.iw_memory.specs.Table.{Table, put}
 use Rattle.iw_ranges.specs.Arrived.{Missing, cell_at}
 use Rattle.iw_fpdu.specs.declared.layout.Layout.{Layout}
@@ -91,33 +92,33 @@ pub tagged_payload : (u : List ℕ) (head : TaggedHead) → Passes u head → pa
 tagged_payload u head p = ap payload_of p.read ∙ (segment_past u (Tagged head p.payload) p.read).payload
 
 -- ---- its verdict
-abbrev pub tagged_verdict : Bool → Table → ℕ → List Outstanding → TaggedHead → ℕ → Result Landing Fault
-tagged_verdict response table domain reads head n =
-    fault_or (or_else (if response then sink_fault reads head n else None) (placing_fault table domain head n (right_of response))) (landing_of response (place_in head n))
+abbrev pub tagged_verdict : Bool → Table → Peer → List Outstanding → TaggedHead → ℕ → Result Landing Fault
+tagged_verdict response table peer reads head n =
+    fault_or (or_else (if response then sink_fault reads head n else None) (placing_fault table peer head n (right_of response))) (landing_of response (place_in head n))
 
-pub tagged_verdict_is : (at : Standing) (u : List ℕ) (head : TaggedHead) → Passes u head → segment_verdict at u ≡ tagged_verdict (is_response head) at.table at.domain at.reads head (length u - 14)
+pub tagged_verdict_is : (at : Standing) (u : List ℕ) (head : TaggedHead) → Passes u head → segment_verdict at u ≡ tagged_verdict (is_response head) at.table at.peer at.reads head (length u - 14)
 tagged_verdict_is at u head p =
     ap (λ r. head_verdict at r (length (payload_of (read_segment u)))) (tagged_judged u head (length u) at.asked.next (length at.asked.unanswered) p)
     ∙ ap (head_verdict at (judged_tagged head (Ok p.operation))) (ap length (tagged_payload u head p) ∙ length-drop 14 u)
     ∙ by p.operation (operation_is head p.operation p.checked)
   where
     by : (operation : TaggedOperation) → tagged_operation (opcode_of head.control) ≡ Some operation
-        → head_verdict at (judged_tagged head (Ok operation)) (length u - 14) ≡ tagged_verdict (is_response head) at.table at.domain at.reads head (length u - 14)
-    by tagged.Write e = ap (λ o. tagged_verdict (is_read_response o) at.table at.domain at.reads head (length u - 14)) (sym e)
-    by tagged.ReadResponse e = ap (λ o. tagged_verdict (is_read_response o) at.table at.domain at.reads head (length u - 14)) (sym e)
+        → head_verdict at (judged_tagged head (Ok operation)) (length u - 14) ≡ tagged_verdict (is_response head) at.table at.peer at.reads head (length u - 14)
+    by tagged.Write e = ap (λ o. tagged_verdict (is_read_response o) at.table at.peer at.reads head (length u - 14)) (sym e)
+    by tagged.ReadResponse e = ap (λ o. tagged_verdict (is_read_response o) at.table at.peer at.reads head (length u - 14)) (sym e)
 
 -- the first check that fails is that of its sink
-pub unasked : (response : Bool) (table : Table) (domain : ℕ) (reads : List Outstanding) (head : TaggedHead) (n : ℕ) (fault : Fault)
-    → Some fault ≡ (if response then sink_fault reads head n else None) → Err fault ≡ tagged_verdict response table domain reads head n
-unasked response table domain reads head n fault e =
-    ap (λ o. fault_or (or_else o (placing_fault table domain head n (right_of response))) (landing_of response (place_in head n))) e
+pub unasked : (response : Bool) (table : Table) (peer : Peer) (reads : List Outstanding) (head : TaggedHead) (n : ℕ) (fault : Fault)
+    → Some fault ≡ (if response then sink_fault reads head n else None) → Err fault ≡ tagged_verdict response table peer reads head n
+unasked response table peer reads head n fault e =
+    ap (λ o. fault_or (or_else o (placing_fault table peer head n (right_of response))) (landing_of response (place_in head n))) e
 
 -- or it is placed, or that of its region fails
-pub as_placed : (response : Bool) (table : Table) (domain : ℕ) (reads : List Outstanding) (head : TaggedHead) (n : ℕ)
+pub as_placed : (response : Bool) (table : Table) (peer : Peer) (reads : List Outstanding) (head : TaggedHead) (n : ℕ)
     → None ≡ (if response then sink_fault reads head n else None)
-    → as_tagged response (fault_or (placing_fault table domain head n (right_of response)) (place_in head n)) ≡ tagged_verdict response table domain reads head n
-as_placed response table domain reads head n e =
-    go (placing_fault table domain head n (right_of response)) ∙ ap (λ o. fault_or (or_else o (placing_fault table domain head n (right_of response))) (landing_of response (place_in head n))) e
+    → as_tagged response (fault_or (placing_fault table peer head n (right_of response)) (place_in head n)) ≡ tagged_verdict response table peer reads head n
+as_placed response table peer reads head n e =
+    go (placing_fault table peer head n (right_of response)) ∙ ap (λ o. fault_or (or_else o (placing_fault table peer head n (right_of response))) (landing_of response (place_in head n))) e
   where
     go : (o : Option Fault) → as_tagged response (fault_or o (place_in head n)) ≡ fault_or o (landing_of response (place_in head n))
     go None = refl
@@ -135,6 +136,10 @@ pub lands_early : (at : Standing) (frame : Frame) (head : TaggedHead) (r : Resul
 lands_early at frame head r p e = ap landing_in e ∙ ap (λ b. if b then landing_in (verdict at frame) else None) (sym (tagged_early at frame.ulpdu head p))
 
 -- what a placement leaves, if it was one
+pub placed_is : (o : Option Fault) (p q : Placed) → Ok q ≡ fault_or o p → q ≡ p
+placed_is None p q e = cc
+placed_is (Some fault) p q e = absurd (let no : ⊥ = cc in no)
+
 pub put_there : (r : Result Placed Fault) (o : Option Fault) (p : Placed) (table new : Table) (payload octets : List ℕ) → r ≡ fault_or o p → payload ≡ octets → OnOk r (new ≡ put table p.stag p.to octets)
     → IfOk r (λ at. new ≡ put table at.stag at.to payload)
 put_there (Err fault) o p table new payload octets is same done = tt

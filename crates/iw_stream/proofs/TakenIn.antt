@@ -1,18 +1,18 @@
 -- One read at a stream.
-use Rattle.std.proofs.Common.{◌≡◌, ℕ, ◌+◌, ◌-◌, ◌<◌, ◌≤◌, true, false, if◌then◌else◌, List, drop, length, min, Option, Ok, sym, ap, ◌∙◌, subst, arith}
-use Rattle.std.specs.Prelude.{Result}
+use Rattle.std.proofs.Common.{◌≡◌, ℕ, zero, suc, ◌+◌, ◌-◌, ◌<◌, ◌≤◌, true, false, if◌then◌else◌, List, [], ◌∷◌, drop, length, min, Option, None, Ok, refl, sym, ap, ◌∙◌, subst, arith}
+use Rattle.std.specs.Prelude.{Result, slice_index}
 use Rattle.std.specs.Io.KnownBytes.{Consumes}
 use Rattle.std.proofs.lemmas.Bool.{true≢false}
 use Rattle.iw_ranges.specs.declared.Delivery.TheVariants.{Kept, Dropped}
-use Rattle.iw_ranges.specs.Arrived.{Arrived, delivery, delivered, taken_in, end_of}
+use Rattle.iw_ranges.specs.Arrived.{Arrived, delivery, taken_in, end_of}
 use Rattle.iw_ranges.proofs.ByPlace.{delivered-kept}
 use Rattle.iw_ranges.proofs.NearPlaces.{near_back, near_inside}
 use Rattle.iw_stream.specs.declared.intake.Intake.{Intake}
-use Rattle.iw_stream.specs.declared.intake.Intake.TheVariants.{Came, End, Full, Gap}
+use Rattle.iw_stream.specs.declared.intake.Intake.TheVariants.{Came, End, Full}
 use Rattle.iw_stream.specs.declared.intake.TheConstants.{MOST_READ}
 use Rattle.iw_stream.specs.Frames.{EarlyRecord}
 use Rattle.iw_stream.specs.Kept.{Keeps}
-use Rattle.iw_stream.specs.Reading.{Brings, Reads, Took, room_ahead, number_past}
+use Rattle.iw_stream.specs.Reading.{Brings, Reads, Took, Counts, room_ahead, number_past}
 use Rattle.iw_stream.specs.Stream.{StreamState, ended, place_of, left_out, delivery_of, after_deliver}
 use Rattle.iw_stream.proofs.Keeping.{keeps_delivered}
 
@@ -67,6 +67,53 @@ took_ended s before rest octets n over some few len given =
       fits = λ e. absurd (true≢false (sym over ∙ e));
     }
 
+-- ---- the same of octets that the owner read
+pub counts_running : (s : StreamState) (after : Arrived) (n : ℕ) → ended s ≡ false → 0 < n → n ≤ min MOST_READ (room_ahead s.arrived) → Brings s.arrived after None None n
+    → Counts s (record s { arrived = after; answered = true }) n
+counts_running s after n runs some few b =
+    let kept : delivery_of s (number_past s) n ≡ Kept = read_kept s b.near n runs b.kept in
+    let whole : delivery_of s (number_past s) (length b.octets) ≡ Kept = ap (delivery_of s (number_past s)) b.len ∙ kept in
+    let there : after ≡ taken_in s.arrived (place_of s (number_past s)) (drop (left_out s (number_past s)) b.octets) =
+    b.taken ∙ delivered-kept s.arrived (end_of s.arrived) b.octets (ap (delivery s.arrived (end_of s.arrived)) b.len ∙ b.kept) ∙ sym (read_taken s b.near b.octets) in
+    record {
+      octets = b.octets;
+      len = b.len;
+      small = b.small;
+      delivered = ap (λ a. record s { arrived = a; answered = true }) there ∙ sym (ap (after_deliver s (number_past s) b.octets) whole);
+      some = some;
+      most = omega (arith, few);
+      kept = λ e. kept;
+      fits = λ e. omega (arith, few);
+    }
+
+abbrev zeros : ℕ → List ℕ
+zeros zero = []
+zeros (suc n) = 0 ∷ zeros n
+
+length-zeros : (n : ℕ) → length (zeros n) ≡ n
+length-zeros zero = refl
+length-zeros (suc n) = ap suc (length-zeros n)
+
+small-zeros : (n k : ℕ) → slice_index (zeros n) k < 256
+small-zeros zero k = omega arith
+small-zeros (suc n) zero = omega arith
+small-zeros (suc n) (suc k) = small-zeros n k
+
+-- whatever they were
+pub counts_ended : (s : StreamState) (n : ℕ) → ended s ≡ true → 0 < n → n ≤ MOST_READ → Counts s (record s { answered = true }) n
+counts_ended s n over some few =
+    let dropped : delivery_of s (number_past s) (length (zeros n)) ≡ Dropped = ap (λ b. if b then Dropped else delivery s.arrived (place_of s (number_past s)) (length (zeros n) - left_out s (number_past s))) over in
+    record {
+      octets = zeros n;
+      len = length-zeros n;
+      small = small-zeros n;
+      delivered = sym (ap (after_deliver s (number_past s) (zeros n)) dropped);
+      some = some;
+      most = few;
+      kept = λ e. absurd (true≢false (sym over ∙ e));
+      fits = λ e. absurd (true≢false (sym over ∙ e));
+    }
+
 -- ---- what the stream keeps of its fields
 pub keeps_read : (s : StreamState) (after : Arrived) (es : List EarlyRecord) (before rest : Option (List ℕ)) (intake : Intake) → Reads s.arrived after before rest intake → es ≡ s.early → Keeps s
     → Keeps (record s { arrived = after; early = es })
@@ -76,7 +123,6 @@ keeps_read s after es before rest intake r early k = subst (λ (xs : List EarlyR
     go (Came n) t = keeps_delivered s (end_of s.arrived) t.2.octets (let ok : Result ℕ ℕ = Ok 0 in ok) after t.2.taken tt k
     go End t = subst (λ (a : Arrived). Keeps (record s { arrived = a })) (sym t.0) k
     go Full t = subst (λ (a : Arrived). Keeps (record s { arrived = a })) (sym t.0) k
-    go Gap t = subst (λ (a : Arrived). Keeps (record s { arrived = a })) (sym t.0) k
 
 pub keeps_unread : (s : StreamState) (after : Arrived) (es : List EarlyRecord) → after ≡ s.arrived → es ≡ s.early → Keeps s → Keeps (record s { arrived = after; early = es })
 keeps_unread s after es same early k = subst Keeps (λ i. record s { arrived = sym same i; early = sym early i }) k

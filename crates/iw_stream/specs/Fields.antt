@@ -22,6 +22,7 @@ pub record IsStart (s : start.Inside) : Type 0 where
 abbrev pub state_of : {A : Type 0} → stream.Inside A → StreamState
 state_of {A} s = record {
   domain = s.domain;
+  number = s.number;
   start = s.start;
   mulpdu = s.mulpdu;
   queue = s.queue;

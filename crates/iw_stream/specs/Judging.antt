@@ -15,11 +15,12 @@ use Rattle.iw_octets.specs.declared.stag.Stag.{Stag}
 use Rattle.iw_octets.specs.Operation.{opcode_of, tagged_operation, untagged_operation}
 use Rattle.iw_octets.specs.Segment.{read_segment}
 use Rattle.iw_octets.specs.Stag.{stag_of}
+use Rattle.iw_memory.specs.declared.peer.Peer.{Peer}
 use Rattle.iw_memory.specs.declared.refusal.InvalidateDeny.{InvalidateDeny}
 use Rattle.iw_memory.specs.declared.refusal.InvalidateDeny.TheVariants.{NotAssociated, Invalid, NotAllowed}
 use Rattle.iw_memory.specs.declared.rights.Right.{Right}
 use Rattle.iw_memory.specs.declared.rights.Right.TheVariants as rights
-use Rattle.iw_memory.specs.Table.{Table, put, invalidate_denial, invalidated}
+use Rattle.iw_memory.specs.Table.{Table, put, invalidate_denial_for, invalidated}
 use Rattle.iw_fpdu.specs.declared.fpdu.Mismatch.{Mismatch}
 use Rattle.iw_fpdu.specs.declared.fpdu.Mismatch.TheVariants.{CrcMismatch, MarkerMismatch}
 use Rattle.iw_queues.specs.Joined as joined
@@ -43,11 +44,11 @@ use Rattle.iw_stream.specs.declared.judging.Turning.{Turning}
 use Rattle.iw_stream.specs.declared.judging.Turning.TheVariants.{Passed, Completed, Answered}
 use Rattle.iw_stream.specs.Frames.{Frame, segment_in, payload_of, head_in, payload_len}
 
--- what the checks of a frame look at: the regions, the stream's domain, the receive buffers, the Reads of this end that are outstanding,
+-- what the checks of a frame look at: the regions, whose peer sent it, the receive buffers, the Reads of this end that are outstanding,
 -- and the peer's requests
 pub record Standing : Type 0 where
   pub table : Table
-  pub domain : ℕ
+  pub peer : Peer
   pub receiving : Receiving
   pub reads : List Outstanding
   pub asked : Requested
@@ -78,12 +79,12 @@ abbrev pub place_in : TaggedHead → ℕ → Placed
 place_in head n = record { stag = head.stag; to = head.to; n = n }
 
 -- where a tagged segment with n octets of payload goes, or the first check of its sink or its region that fails
-abbrev pub write_verdict : Table → ℕ → TaggedHead → ℕ → Result Landing Fault
-write_verdict table domain head n = fault_or (placing_fault table domain head n rights.Write) (Write (place_in head n))
+abbrev pub write_verdict : Table → Peer → TaggedHead → ℕ → Result Landing Fault
+write_verdict table peer head n = fault_or (placing_fault table peer head n rights.Write) (Write (place_in head n))
 
-abbrev pub response_verdict : Table → ℕ → List Outstanding → TaggedHead → ℕ → Result Landing Fault
-response_verdict table domain reads head n =
-    fault_or (or_else (sink_fault reads head n) (placing_fault table domain head n rights.Sink)) (Response (place_in head n))
+abbrev pub response_verdict : Table → Peer → List Outstanding → TaggedHead → ℕ → Result Landing Fault
+response_verdict table peer reads head n =
+    fault_or (or_else (sink_fault reads head n) (placing_fault table peer head n rights.Sink)) (Response (place_in head n))
 
 -- the fault that the peer's Terminate tells (RFC 5040 4.8)
 abbrev pub fault_told : TerminateWord → Fault
@@ -91,10 +92,10 @@ fault_told word = record { layer = word.layer; kind = word.kind; code = word.cod
 
 -- where a segment with this header goes, or the first check of its sink, region, buffer or source that fails
 abbrev pub place_verdict : Standing → Head → ℕ → Result Landing Fault
-place_verdict at (heads.Write head) n = write_verdict at.table at.domain head n
-place_verdict at (heads.Response head) n = response_verdict at.table at.domain at.reads head n
+place_verdict at (heads.Write head) n = write_verdict at.table at.peer head n
+place_verdict at (heads.Response head) n = response_verdict at.table at.peer at.reads head n
 place_verdict at (heads.Send head) n = fault_or (buffer_fault at.receiving head.msn head.mo n) (Send head.msn head.mo n)
-place_verdict at (heads.Request head request) n = fault_or (source_fault at.table at.domain request) (Request request)
+place_verdict at (heads.Request head request) n = fault_or (source_fault at.table at.peer request) (Request request)
 place_verdict at (heads.Terminate head word) n = Ok (Terminate (fault_told word))
 
 abbrev pub head_verdict : Standing → Result Head Fault → ℕ → Result Landing Fault
@@ -185,16 +186,16 @@ invalidate_fault Invalid = faults.PROTECTION_INVALID_STAG
 invalidate_fault NotAllowed = faults.PROTECTION_CANNOT_INVALIDATE
 
 -- the first check that fails of the region which a Send's last segment has to invalidate (RFC 5040 5.3)
-abbrev pub invalidation_fault : Table → ℕ → Turning → Option Fault
-invalidation_fault table domain Passed = None
-invalidation_fault table domain (Completed solicited None) = None
-invalidation_fault table domain (Completed solicited (Some stag)) = option_map invalidate_fault (invalidate_denial table domain stag)
-invalidation_fault table domain (Answered ticket) = None
+abbrev pub invalidation_fault : Table → Peer → Turning → Option Fault
+invalidation_fault table peer Passed = None
+invalidation_fault table peer (Completed solicited None) = None
+invalidation_fault table peer (Completed solicited (Some stag)) = option_map invalidate_fault (invalidate_denial_for table peer stag)
+invalidation_fault table peer (Answered ticket) = None
 
 -- a Send's segment is the next one of the message that is due, and the region that it has to invalidate may go
-abbrev pub send_turn : Table → ℕ → Receiving → UntaggedHead → Result Turning Fault
-send_turn table domain r head =
-    fault_or (or_else (turn_fault r head.msn head.mo) (invalidation_fault table domain (send_turning head))) (send_turning head)
+abbrev pub send_turn : Table → Peer → Receiving → UntaggedHead → Result Turning Fault
+send_turn table peer r head =
+    fault_or (or_else (turn_fault r head.msn head.mo) (invalidation_fault table peer (send_turning head))) (send_turning head)
 
 abbrev pub answering_by : Option ℕ → Turning
 answering_by None = Passed
@@ -215,13 +216,13 @@ tagged_turn reads head n =
 
 -- what the turn of a segment with n octets of payload comes to, by the checks of a turn alone: no check of a frame, a header or a region is
 -- made again
-abbrev pub segment_turn : Table → ℕ → Receiving → List Outstanding → ℕ → Option (Segment (List ℕ)) → Result Turning Fault
-segment_turn table domain r reads n None = Err faults.SEGMENT_SHORT
-segment_turn table domain r reads n (Some (Tagged head payload)) = tagged_turn reads head n
-segment_turn table domain r reads n (Some (Untagged head payload)) = send_turn table domain r head
+abbrev pub segment_turn : Table → Peer → Receiving → List Outstanding → ℕ → Option (Segment (List ℕ)) → Result Turning Fault
+segment_turn table peer r reads n None = Err faults.SEGMENT_SHORT
+segment_turn table peer r reads n (Some (Tagged head payload)) = tagged_turn reads head n
+segment_turn table peer r reads n (Some (Untagged head payload)) = send_turn table peer r head
 
 abbrev pub turn_of : Standing → PlacedFrame → Result Turning Fault
-turn_of at frame = segment_turn at.table at.domain at.receiving at.reads (payload_len frame) (head_in frame)
+turn_of at frame = segment_turn at.table at.peer at.receiving at.reads (payload_len frame) (head_in frame)
 
 -- and by the Read that a tagged segment finishes, or the check of its turn that fails
 abbrev pub answered : Result (Option ℕ) Fault → Result Turning Fault

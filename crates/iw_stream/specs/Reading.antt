@@ -1,10 +1,12 @@
 -- Octets that are read from the connection in place.
-use Rattle.std.specs.Prelude.{ℕ, ◌≡◌, ◌+◌, ◌-◌, ◌%◌, ◌^◌, ◌<◌, ◌≤◌, min, false, List, [], length, Option, slice_index}
+use Rattle.std.specs.Prelude.{ℕ, ◌≡◌, ◌+◌, ◌-◌, ◌%◌, ◌^◌, ◌<◌, ◌≤◌, min, true, false, List, [], length, Option, slice_index}
 use Rattle.std.specs.Io.KnownBytes.{Consumes, IsAtEnd, Keeps}
 use Rattle.iw_ranges.specs.declared.Delivery.TheVariants.{Kept}
-use Rattle.iw_ranges.specs.Arrived.{Arrived, delivery, delivered, end_of, HasNoGap, window}
+use Rattle.iw_ranges.specs.Arrived.{Arrived, delivery, delivered, end_of, window}
 use Rattle.iw_stream.specs.declared.intake.Intake.{Intake}
-use Rattle.iw_stream.specs.declared.intake.Intake.TheVariants.{Came, End, Full, Gap}
+use Rattle.iw_stream.specs.declared.intake.Intake.TheVariants.{Came, End, Full}
+use Rattle.iw_stream.specs.declared.intake.LendRefusal.{LendRefusal}
+use Rattle.iw_stream.specs.declared.intake.LendRefusal.TheVariants as refusals
 use Rattle.iw_stream.specs.declared.intake.TheConstants.{MOST_READ}
 use Rattle.iw_stream.specs.Stream.{StreamState, ended, delivery_of, after_deliver}
 
@@ -28,7 +30,6 @@ abbrev pub Reads : Arrived → Arrived → Option (List ℕ) → Option (List �
 Reads old new before after (Came n) = (0 < n) × (n ≤ min MOST_READ (room_ahead old)) × Brings old new before after n
 Reads old new before after End = (new ≡ old) × Consumes before after [] × IsAtEnd after
 Reads old new before after Full = (new ≡ old) × Keeps before after × (room_ahead old ≡ 0)
-Reads old new before after Gap = (new ≡ old) × Keeps before after × (HasNoGap old → ⊥)
 
 -- ---- the same of a stream
 -- the number of the octet past the last that came
@@ -55,4 +56,31 @@ abbrev pub IsRead : StreamState → StreamState → Option (List ℕ) → Option
 IsRead old new before after (Came n) = Took old new before after n
 IsRead old new before after End = (new ≡ old) × Consumes before after [] × IsAtEnd after
 IsRead old new before after Full = (new ≡ old) × Keeps before after × (ended old ≡ false) × (room_ahead old.arrived ≡ 0)
-IsRead old new before after Gap = (new ≡ old) × Keeps before after × (ended old ≡ false) × (HasNoGap old.arrived → ⊥)
+
+-- ---- octets that the owner reads, to a place that is lent
+-- for how many octets a place is lent, if n are wanted
+abbrev pub lendable : StreamState → ℕ → ℕ
+lendable s n = min n (min MOST_READ (room_ahead s.arrived))
+
+-- why no place is lent of what came
+abbrev pub LacksRoom : Arrived → LendRefusal → Type 0
+LacksRoom a refusals.Full = room_ahead a ≡ 0
+LacksRoom a refusals.Ended = ⊥
+LacksRoom a refusals.NoMemory = Unit {0}
+
+-- why a stream lends none
+abbrev pub IsNotLent : StreamState → LendRefusal → Type 0
+IsNotLent s refusals.Full = (ended s ≡ false) × (room_ahead s.arrived ≡ 0)
+IsNotLent s refusals.Ended = ended s ≡ true
+IsNotLent s refusals.NoMemory = ended s ≡ false
+
+-- the n octets that stood in the lent place came; none is dropped if the stream runs
+pub record Counts (old new : StreamState) (n : ℕ) : Type 0 where
+  pub octets : List ℕ
+  pub len : length octets ≡ n
+  pub small : (k : ℕ) → slice_index octets k < 256
+  pub delivered : new ≡ after_read old octets
+  pub some : 0 < n
+  pub most : n ≤ MOST_READ
+  pub kept : ended old ≡ false → delivery_of old (number_past old) n ≡ Kept
+  pub fits : ended old ≡ false → n ≤ room_ahead old.arrived

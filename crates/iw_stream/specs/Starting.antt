@@ -6,6 +6,7 @@ use Rattle.iw_startup.specs.declared.config.Agreed.{Agreed}
 use Rattle.iw_octets.specs.declared.fault.Fault.{Fault}
 use Rattle.iw_reads.specs.Outstanding.{most_reads}
 use Rattle.iw_startup.specs.declared.config.Config.{Config}
+use Rattle.iw_startup.specs.declared.config.PeerOptions.{PeerOptions}
 use Rattle.iw_startup.specs.declared.enhanced.EnhancedData.{EnhancedData}
 use Rattle.iw_startup.specs.declared.enhanced.Mismatch.{Mismatch}
 use Rattle.iw_startup.specs.declared.enhanced.Mismatch.TheVariants.{InsufficientIrd, NoMatchingRtr}
@@ -17,7 +18,7 @@ use Rattle.iw_startup.specs.declared.side.Side.TheVariants as sides
 use Rattle.iw_startup.specs.Enhanced.{asked_revision}
 use Rattle.iw_startup.specs.Frame.{is_enhanced, has_word}
 use Rattle.iw_startup.specs.Peer.{progress_of}
-use Rattle.iw_startup.specs.State.{StartupState, begun, pushed, frame_of, told_of, agreed_of, agreement, mismatch_of, awaits_answer, answered}
+use Rattle.iw_startup.specs.State.{StartupState, begun, pushed, frame_of, told_of, options_of, agreed_of, agreement, mismatch_of, awaits_answer, answered}
 use Rattle.iw_startup.specs.State as startups
 use Rattle.iw_stream.specs.declared.answer.AnswerRefusal.{AnswerRefusal}
 use Rattle.iw_stream.specs.declared.answer.AnswerRefusal.TheVariants.{NotAsked, PrivateTooLong}
@@ -126,6 +127,12 @@ abbrev pub told_in : StartState → Option EnhancedData
 told_in (AtOnce layout) = None
 told_in (Unheard u) = None
 told_in (Heard u) = told_of u
+
+-- what the peer asks for in it
+abbrev pub options_in : StartState → Option PeerOptions
+options_in (AtOnce layout) = None
+options_in (Unheard u) = None
+options_in (Heard u) = options_of u
 
 -- what both ends ask for come to
 abbrev pub agreement_in : StartState → Agreed

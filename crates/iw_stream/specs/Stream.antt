@@ -6,6 +6,7 @@ use Rattle.iw_octets.specs.declared.fault.Fault.{Fault}
 use Rattle.iw_octets.specs.declared.segment.Segment.{Segment}
 use Rattle.iw_octets.specs.declared.segment.Segment.TheVariants.{Tagged, Untagged}
 use Rattle.iw_octets.specs.Segment.{segment_octets}
+use Rattle.iw_memory.specs.declared.peer.Peer.{Peer}
 use Rattle.iw_memory.specs.Table.{Table}
 use Rattle.iw_ranges.specs.declared.Delivery.{Delivery}
 use Rattle.iw_ranges.specs.declared.Delivery.TheVariants.{Kept, Dropped}
@@ -47,6 +48,8 @@ use Rattle.iw_stream.specs.declared.answer.RecvRefusal.{RecvRefusal}
 use Rattle.iw_stream.specs.declared.answer.RecvRefusal.TheVariants as recv_refusals
 use Rattle.iw_stream.specs.declared.answer.SizeRefusal.{SizeRefusal}
 use Rattle.iw_stream.specs.declared.answer.SizeRefusal.TheVariants.{BadSize}
+use Rattle.iw_stream.specs.declared.answer.Standing.{Standing}
+use Rattle.iw_stream.specs.declared.answer.Standing.TheVariants as standings
 use Rattle.iw_stream.specs.declared.judging.PlacedFrame.{PlacedFrame}
 use Rattle.iw_stream.specs.declared.ending.Ending.{Ending}
 use Rattle.iw_stream.specs.declared.ending.Ending.TheVariants.{Runs, Over, Broken}
@@ -60,6 +63,7 @@ use Rattle.iw_stream.specs.Starting as starting
 
 pub record StreamState : Type 0 where
   pub domain : ℕ
+  pub number : Option ℕ  -- its number in its domain, if it was given one
   pub start : StartState  -- how far its start-up is
   pub mulpdu : ℕ  -- the maximum ULPDU: how many octets one that is sent has at most
   pub queue : Queue  -- what was posted and not handed out
@@ -79,6 +83,7 @@ pub record StreamState : Type 0 where
 abbrev pub opened : ℕ → Role → Config → StreamState
 opened domain role config = record {
   domain = domain;
+  number = None;
   start = start_at_first role config;
   mulpdu = 1400;
   queue = nothing_posted;
@@ -99,6 +104,14 @@ opened domain role config = record {
 abbrev pub opened_shared : ℕ → Role → Config → StreamState
 opened_shared domain role config = record (opened domain role config) { receiving = sharing }
 
+-- a number is given to it
+abbrev pub numbered : StreamState → ℕ → StreamState
+numbered s number = record s { number = Some number }
+
+-- who asks for the use of regions on it
+abbrev pub peer_of : StreamState → Peer
+peer_of s = record { domain = s.domain; stream = s.number }
+
 abbrev pub shares : StreamState → Bool
 shares s = is_shared s.receiving
 
@@ -110,6 +123,9 @@ sees s pool = record s { receiving = lent s.receiving pool }
 
 abbrev pub ended : StreamState → Bool
 ended s = has_ended s.ending
+
+abbrev pub standing_of : StreamState → Standing
+standing_of s = if ended s then standings.Ended else if is_open s.start then standings.Open else standings.Starting
 
 -- a responder sends no frame before a frame of the peer had its turn (RFC 5044 7.1.2): the in-order point lies where those begin
 abbrev pub is_silent : StartState → Arrived → Bool
@@ -229,7 +245,7 @@ frame_of_part s part = frame_of s (segment_of s.numbers part)
 
 -- the frame of a part of a response, whose octets are fetched as it is sent, or why they are denied
 abbrev pub frame_fetched : Table → StreamState → ResponsePart → Result (List ℕ) Fault
-frame_fetched table s part = fault_or (fetch_fault table s.domain part) (frame_of s (Tagged part.head (fetched_octets table part)))
+frame_fetched table s part = fault_or (fetch_fault table (peer_of s) part) (frame_of s (Tagged part.head (fetched_octets table part)))
 
 -- its octets
 abbrev pub octets_fetched : Result (List ℕ) Fault → List ℕ

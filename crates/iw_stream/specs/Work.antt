@@ -32,7 +32,7 @@ use Rattle.iw_stream.specs.declared.judging.Turning.TheVariants.{Passed, Complet
 use Rattle.iw_stream.specs.Frames.{Frame, frame_by, frame_at, segment_in, payload_of, placed, payload_len, record_tried, state_tried, placed_at, without}
 use Rattle.iw_stream.specs.Judging.{Standing, verdict, early_verdict, table_landed, receiving_landed, turn_of, table_turned, receiving_turned, reads_left, table_tried, receiving_tried}
 use Rattle.iw_stream.specs.Starting.{StartState, is_open, expecting, first_place_in, awaits_frame, progress_in, heard, agreement_in, mismatch_in, negotiation_fault}
-use Rattle.iw_stream.specs.Stream.{StreamState, sees, ended, ends, ends_by, due, is_none_due}
+use Rattle.iw_stream.specs.Stream.{StreamState, peer_of, sees, ended, ends, ends_by, due, is_none_due}
 use Rattle.iw_stream.specs.Terminating.{terminate_alone, terminate_judged, terminate_turned}
 
 -- the octets that came without a gap from the in-order point on
@@ -116,13 +116,25 @@ is_rest (Judge frame) = false
 is_rest (Try frame) = false
 is_rest Rest = true
 
+-- it judges a frame, so it may take a buffer for a message
+abbrev pub judges : Task → Bool
+judges (HandOut done) = false
+judges (GiveUp done) = false
+judges (GiveBack buffer) = false
+judges Hear = false
+judges (Turn frame) = false
+judges (Clash frame) = false
+judges (Judge frame) = true
+judges (Try frame) = true
+judges Rest = false
+
 -- the stream has ended, and neither work nor emit has anything left to do: whatever comes, they answer that from then on
 abbrev pub is_at_rest : StreamState → Bool
 is_at_rest s = ended s && (is_rest (task s) && is_none_due (due s))
 
 -- what its checks look at
 abbrev pub standing : Table → StreamState → Standing
-standing table s = record { table = table; domain = s.domain; receiving = s.receiving; reads = s.reads; asked = s.asked }
+standing table s = record { table = table; peer = peer_of s; receiving = s.receiving; reads = s.reads; asked = s.asked }
 
 -- ---- what is answered
 

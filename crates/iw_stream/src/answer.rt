@@ -133,6 +133,17 @@ pub enum Role {
     Responder,
 }
 
+/// How far a stream is in its life.
+#[derive(Clone, Copy, Debug, PartialEq, Eq)]
+pub enum Standing {
+    /// Its start-up goes on: nothing may be posted but receive buffers.
+    Starting,
+    /// It is open: messages may be posted.
+    Open,
+    /// It has ended. A Terminate or a start-up frame may still be due.
+    Ended,
+}
+
 /// What one step of work did. The buffer's type is the parameter.
 #[derive(Debug, PartialEq, Drop)]
 pub enum Step<O> {

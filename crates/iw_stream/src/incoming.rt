@@ -15,6 +15,7 @@ ghost use Rattle.iw_locate.specs.Unsearched.{IsFollowed};
 ghost use Rattle.iw_stream.specs.Incoming.{IsClearAt};
 ghost use Rattle.iw_stream.specs.Frames.{IsNext as IsNextFrame, frame_at, frame_by, placed_at, without};
 
+mod lending;
 mod reading;
 
 use crate::judging::{Header, PlacedFrame, copy_of};

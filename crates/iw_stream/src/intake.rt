@@ -1,3 +1,5 @@
+use thiserror::Error;
+
 /// The most octets that one read takes.
 pub const MOST_READ: usize = 65_536;
 
@@ -10,7 +12,17 @@ pub enum Intake {
     End,
     /// The window has no room, and nothing was read: [`Stream::work`](crate::Stream::work) makes room.
     Full,
-    /// Octets that were delivered wait past a gap, and nothing was read: read into memory of your own, and
-    /// [`deliver`](crate::Stream::deliver).
-    Gap,
+}
+
+/// Why no place is lent to read to.
+#[derive(Clone, Copy, Debug, PartialEq, Eq, Error)]
+pub enum LendRefusal {
+    /// The window has no room: [`Stream::work`](crate::Stream::work) makes room.
+    #[error("the window has no room")]
+    Full,
+    /// The stream has ended: what comes is dropped.
+    #[error("the stream has ended")]
+    Ended,
+    #[error("no memory")]
+    NoMemory,
 }

@@ -22,7 +22,7 @@ ghost use Rattle.iw_stream.specs.Judging.{table_landed, receiving_landed};
 use crate::turning::is_response;
 use arrayvec::ArrayVec;
 use iw_fpdu::{Fpdu, Mismatch, Pieces};
-use iw_memory::{Memory, Right};
+use iw_memory::{Memory, Peer, Right};
 use iw_octets::{
     Fault, ReadRequest, Stag, TAGGED_HEADER, TaggedHead, UNTAGGED_HEADER, UntaggedHead, gather,
     is_tagged,
@@ -197,20 +197,20 @@ fn place_tagged<A: Allocator, B: Allocator>(
     right: Right,
     fpdu: &Fpdu<'_, A>,
     payload: Pieces<'_>,
-    domain: u8,
+    peer: Peer,
     memory: &mut Memory<B>,
 ) -> Result<Placed, Fault>
     requires holds { HoldsSpan fpdu.now }
     requires long { TAGGED_HEADER ≤ ulpdu_len fpdu.now }
     requires payload { payload ≡ drop TAGGED_HEADER (ulpdu fpdu.now) }
-    ensures placed { result ≡ fault_or (placing_fault memory.old domain head (ulpdu_len fpdu.now - TAGGED_HEADER) right) (place_in head (ulpdu_len fpdu.now - TAGGED_HEADER)) }
+    ensures placed { result ≡ fault_or (placing_fault memory.old peer head (ulpdu_len fpdu.now - TAGGED_HEADER) right) (place_in head (ulpdu_len fpdu.now - TAGGED_HEADER)) }
     ensures ok { OnOk result (memory.new ≡ put memory.old head.stag head.to (drop TAGGED_HEADER (ulpdu fpdu.now))) }
     ensures err { OnErr result (memory.new ≡ memory.old) }
 {
     let n = fpdu.len() - TAGGED_HEADER;
     let TaggedHead { stag, to, .. } = head;
-    iw_tagged::check(head, n, memory, domain, right)?;
-    copy_payload(payload, memory.part_mut(domain, stag, to, n, right));
+    iw_tagged::check(head, n, memory, peer, right)?;
+    copy_payload(payload, memory.part_mut_for(peer, stag, to, n, right));
     Ok(Placed { stag, to, n })
 }
 
@@ -248,7 +248,7 @@ pub(crate) fn land_tagged<A: Allocator, B: Allocator>(
     head: TaggedHead,
     fpdu: &Fpdu<'_, A>,
     payload: Pieces<'_>,
-    domain: u8,
+    peer: Peer,
     reads: &Reads<B>,
     memory: &mut Memory<B>,
 ) -> Result<Placed, Fault>
@@ -256,7 +256,7 @@ pub(crate) fn land_tagged<A: Allocator, B: Allocator>(
     requires tagged { Some head ≡ tagged_in (read_segment (ulpdu fpdu.now)) }
     requires response { response ≡ is_response head }
     requires payload { payload ≡ drop TAGGED_HEADER (ulpdu fpdu.now) }
-    ensures landed { (at : Standing) → at.table ≡ memory.old → at.domain ≡ domain → at.reads ≡ reads.now → as_tagged response result ≡ verdict at (frame_by fpdu.now) }
+    ensures landed { (at : Standing) → at.table ≡ memory.old → at.peer ≡ peer → at.reads ≡ reads.now → as_tagged response result ≡ verdict at (frame_by fpdu.now) }
     ensures memory { IfOk result (λ at. memory.new ≡ put memory.old at.stag at.to (payload_of (read_segment (ulpdu fpdu.now)))) }
     ensures err { OnErr result (memory.new ≡ memory.old) }
 {
@@ -266,7 +266,7 @@ pub(crate) fn land_tagged<A: Allocator, B: Allocator>(
     if let Err(fault) = check_sink(response, &head, fpdu.len() - TAGGED_HEADER, reads) {
         return Err(fault);
     }
-    place_tagged(head, right_of(response), fpdu, payload, domain, memory)
+    place_tagged(head, right_of(response), fpdu, payload, peer, memory)
 }
 
 // Places the payload of a Write's segment. An `Err` changes nothing.
@@ -274,18 +274,18 @@ pub(crate) fn land_tagged<A: Allocator, B: Allocator>(
 fn place_write<A: Allocator, B: Allocator>(
     head: TaggedHead,
     fpdu: &Fpdu<'_, A>,
-    domain: u8,
+    peer: Peer,
     memory: &mut Memory<B>,
 ) -> Result<Landing, Fault>
     requires holds { HoldsSpan fpdu.now }
     requires long { TAGGED_HEADER ≤ ulpdu_len fpdu.now }
-    ensures landed { result ≡ write_verdict memory.old domain head (ulpdu_len fpdu.now - TAGGED_HEADER) }
+    ensures landed { result ≡ write_verdict memory.old peer head (ulpdu_len fpdu.now - TAGGED_HEADER) }
     ensures memory { IfOk result (λ at. memory.new ≡ table_landed memory.old (drop TAGGED_HEADER (ulpdu fpdu.now)) at) }
     ensures receiving { (r : Receiving) → IfOk result (λ at. r ≡ receiving_landed r (drop TAGGED_HEADER (ulpdu fpdu.now)) at) }
     ensures err { OnErr result (memory.new ≡ memory.old) }
 {
     let payload = fpdu.pieces(TAGGED_HEADER);
-    match place_tagged(head, Right::Write, fpdu, payload, domain, memory) {
+    match place_tagged(head, Right::Write, fpdu, payload, peer, memory) {
         Ok(placed) => Ok(Landing::Write(placed)),
         Err(fault) => Err(fault),
     }
@@ -295,13 +295,13 @@ fn place_write<A: Allocator, B: Allocator>(
 fn place_response<A: Allocator, B: Allocator>(
     head: TaggedHead,
     fpdu: &Fpdu<'_, A>,
-    domain: u8,
+    peer: Peer,
     reads: &Reads<B>,
     memory: &mut Memory<B>,
 ) -> Result<Landing, Fault>
     requires holds { HoldsSpan fpdu.now }
     requires long { TAGGED_HEADER ≤ ulpdu_len fpdu.now }
-    ensures landed { result ≡ response_verdict memory.old domain reads.now head (ulpdu_len fpdu.now - TAGGED_HEADER) }
+    ensures landed { result ≡ response_verdict memory.old peer reads.now head (ulpdu_len fpdu.now - TAGGED_HEADER) }
     ensures memory { IfOk result (λ at. memory.new ≡ table_landed memory.old (drop TAGGED_HEADER (ulpdu fpdu.now)) at) }
     ensures receiving { (r : Receiving) → IfOk result (λ at. r ≡ receiving_landed r (drop TAGGED_HEADER (ulpdu fpdu.now)) at) }
     ensures err { OnErr result (memory.new ≡ memory.old) }
@@ -310,7 +310,7 @@ fn place_response<A: Allocator, B: Allocator>(
         return Err(fault);
     }
     let payload = fpdu.pieces(TAGGED_HEADER);
-    match place_tagged(head, Right::Sink, fpdu, payload, domain, memory) {
+    match place_tagged(head, Right::Sink, fpdu, payload, peer, memory) {
         Ok(placed) => Ok(Landing::Response(placed)),
         Err(fault) => Err(fault),
     }
@@ -338,14 +338,14 @@ fn place_send<A: Allocator, B: Allocator>(
 // Whether the source of a Read may be read.
 fn place_request<A: Allocator>(
     request: ReadRequest,
-    domain: u8,
+    peer: Peer,
     memory: &Memory<A>,
 ) -> Result<Landing, Fault>
-    ensures landed { result ≡ fault_or (source_fault memory.now domain request) (Landing.Request request) }
+    ensures landed { result ≡ fault_or (source_fault memory.now peer request) (Landing.Request request) }
     ensures memory { (table : Table) → (payload : List ℕ) → IfOk result (λ at. table ≡ table_landed table payload at) }
     ensures receiving { (r : Receiving) → (payload : List ℕ) → IfOk result (λ at. r ≡ receiving_landed r payload at) }
 {
-    check_source(&request, memory, domain)?;
+    check_source(&request, memory, peer)?;
     Ok(Landing::Request(request))
 }
 
@@ -354,23 +354,23 @@ fn place_request<A: Allocator>(
 fn land<A: Allocator, B: Allocator>(
     head: Head,
     fpdu: &Fpdu<'_, A>,
-    domain: u8,
+    peer: Peer,
     reads: &Reads<B>,
     memory: &mut Memory<B>,
     receiving: &mut RecvQueue<B>,
 ) -> Result<Landing, Fault>
     requires holds { HoldsSpan fpdu.now }
     requires long { header_octets head ≤ ulpdu_len fpdu.now }
-    ensures landed { (asked : Requested) → result ≡ place_verdict (record { table = memory.old; domain = domain; receiving = receiving.old; reads = reads.now; asked = asked }) head (ulpdu_len fpdu.now - header_octets head) }
+    ensures landed { (asked : Requested) → result ≡ place_verdict (record { table = memory.old; peer = peer; receiving = receiving.old; reads = reads.now; asked = asked }) head (ulpdu_len fpdu.now - header_octets head) }
     ensures memory { IfOk result (λ at. memory.new ≡ table_landed memory.old (drop (header_octets head) (ulpdu fpdu.now)) at) }
     ensures receiving { IfOk result (λ at. receiving.new ≡ receiving_landed receiving.old (drop (header_octets head) (ulpdu fpdu.now)) at) }
     ensures err { OnErr result ((memory.new ≡ memory.old) × (receiving.new ≡ receiving.old)) }
 {
     match head {
-        Head::Write(head) => place_write(head, fpdu, domain, memory),
-        Head::Response(head) => place_response(head, fpdu, domain, reads, memory),
+        Head::Write(head) => place_write(head, fpdu, peer, memory),
+        Head::Response(head) => place_response(head, fpdu, peer, reads, memory),
         Head::Send(head) => place_send(head, fpdu, receiving),
-        Head::Request(_, request) => place_request(request, domain, memory),
+        Head::Request(_, request) => place_request(request, peer, memory),
         Head::Terminate(_, word) => Ok(Landing::Terminate(word.fault())),
     }
 }
@@ -380,7 +380,7 @@ fn land<A: Allocator, B: Allocator>(
 fn land_by<A: Allocator, B: Allocator>(
     first: &[u8],
     fpdu: &Fpdu<'_, A>,
-    domain: u8,
+    peer: Peer,
     reads: &Reads<B>,
     asked: &Requests,
     memory: &mut Memory<B>,
@@ -388,14 +388,14 @@ fn land_by<A: Allocator, B: Allocator>(
 ) -> Result<Landing, Fault>
     requires holds { HoldsSpan fpdu.now }
     requires first { IsFirst (ulpdu fpdu.now) first.now }
-    ensures landed { result ≡ segment_verdict (record { table = memory.old; domain = domain; receiving = receiving.old; reads = reads.now; asked = asked.now }) (ulpdu fpdu.now) }
+    ensures landed { result ≡ segment_verdict (record { table = memory.old; peer = peer; receiving = receiving.old; reads = reads.now; asked = asked.now }) (ulpdu fpdu.now) }
     ensures memory { IfOk result (λ at. memory.new ≡ table_landed memory.old (payload_of (read_segment (ulpdu fpdu.now))) at) }
     ensures receiving { IfOk result (λ at. receiving.new ≡ receiving_landed receiving.old (payload_of (read_segment (ulpdu fpdu.now))) at) }
     ensures err { OnErr result ((memory.new ≡ memory.old) × (receiving.new ≡ receiving.old)) }
 {
     match judge(first, fpdu.len() as u16, asked.next_msn(), asked.len()) {
         Err(fault) => Err(fault),
-        Ok(head) => land(head, fpdu, domain, reads, memory, receiving),
+        Ok(head) => land(head, fpdu, peer, reads, memory, receiving),
     }
 }
 
@@ -404,14 +404,14 @@ fn land_by<A: Allocator, B: Allocator>(
 #[inline(always)]
 pub(crate) fn land_frame<A: Allocator, B: Allocator>(
     fpdu: &Fpdu<'_, A>,
-    domain: u8,
+    peer: Peer,
     reads: &Reads<B>,
     asked: &Requests,
     memory: &mut Memory<B>,
     receiving: &mut RecvQueue<B>,
 ) -> Result<Landing, Fault>
     requires { HoldsSpan fpdu.now }
-    ensures landed { result ≡ verdict (record { table = memory.old; domain = domain; receiving = receiving.old; reads = reads.now; asked = asked.now }) (frame_by fpdu.now) }
+    ensures landed { result ≡ verdict (record { table = memory.old; peer = peer; receiving = receiving.old; reads = reads.now; asked = asked.now }) (frame_by fpdu.now) }
     ensures memory { IfOk result (λ at. memory.new ≡ table_landed memory.old (payload_of (read_segment (ulpdu fpdu.now))) at) }
     ensures receiving { IfOk result (λ at. receiving.new ≡ receiving_landed receiving.old (payload_of (read_segment (ulpdu fpdu.now))) at) }
     ensures err { OnErr result ((memory.new ≡ memory.old) × (receiving.new ≡ receiving.old)) }
@@ -420,13 +420,13 @@ pub(crate) fn land_frame<A: Allocator, B: Allocator>(
         return Err(fault_of(mismatch));
     }
     match first_piece(fpdu) {
-        Some(first) => land_by(first, fpdu, domain, reads, asked, memory, receiving),
+        Some(first) => land_by(first, fpdu, peer, reads, asked, memory, receiving),
         None => {
             let first = first_octets(fpdu);
             land_by(
                 first.as_slice(),
                 fpdu,
-                domain,
+                peer,
                 reads,
                 asked,
                 memory,
@@ -455,19 +455,19 @@ fn land_tagged_early<A: Allocator, B: Allocator>(
     head: TaggedHead,
     fpdu: &Fpdu<'_, A>,
     payload: Pieces<'_>,
-    domain: u8,
+    peer: Peer,
     reads: &Reads<B>,
     memory: &mut Memory<B>,
 ) -> Option<Landing>
     requires holds { HoldsSpan fpdu.now }
     requires tagged { Some head ≡ tagged_in (read_segment (ulpdu fpdu.now)) }
     requires payload { payload ≡ drop TAGGED_HEADER (ulpdu fpdu.now) }
-    ensures landed { (at : Standing) → at.table ≡ memory.old → at.domain ≡ domain → at.reads ≡ reads.now → result ≡ early_verdict at (frame_by fpdu.now) }
+    ensures landed { (at : Standing) → at.table ≡ memory.old → at.peer ≡ peer → at.reads ≡ reads.now → result ≡ early_verdict at (frame_by fpdu.now) }
     ensures memory { memory.new ≡ table_tried memory.old (frame_by fpdu.now) result }
     ensures receiving { (r : Receiving) → r ≡ receiving_tried r (frame_by fpdu.now) result }
 {
     let response = is_response(&head);
-    match land_tagged(response, head, fpdu, payload, domain, reads, memory) {
+    match land_tagged(response, head, fpdu, payload, peer, reads, memory) {
         Ok(placed) => Some(landing_of(response, placed)),
         Err(_) => None,
     }
@@ -477,26 +477,26 @@ fn land_tagged_early<A: Allocator, B: Allocator>(
 /// region or the receive buffer that its header names; any other changes nothing.
 pub(crate) fn land_early<A: Allocator, B: Allocator>(
     fpdu: &Fpdu<'_, A>,
-    domain: u8,
+    peer: Peer,
     reads: &Reads<B>,
     asked: &Requests,
     memory: &mut Memory<B>,
     receiving: &mut RecvQueue<B>,
 ) -> Option<Landing>
     requires { HoldsSpan fpdu.now }
-    ensures landed { result ≡ early_verdict (record { table = memory.old; domain = domain; receiving = receiving.old; reads = reads.now; asked = asked.now }) (frame_by fpdu.now) }
+    ensures landed { result ≡ early_verdict (record { table = memory.old; peer = peer; receiving = receiving.old; reads = reads.now; asked = asked.now }) (frame_by fpdu.now) }
     ensures memory { memory.new ≡ table_tried memory.old (frame_by fpdu.now) result }
     ensures receiving { receiving.new ≡ receiving_tried receiving.old (frame_by fpdu.now) result }
 {
     if let Some((front, payload)) = tagged_parts(fpdu)
         && let Some(head) = tagged_head(front)
     {
-        return land_tagged_early(head, fpdu, payload, domain, reads, memory);
+        return land_tagged_early(head, fpdu, payload, peer, reads, memory);
     }
     if !is_early(fpdu, asked) {
         return None;
     }
-    match land_frame(fpdu, domain, reads, asked, memory, receiving) {
+    match land_frame(fpdu, peer, reads, asked, memory, receiving) {
         Ok(landing) => Some(landing),
         Err(_) => None,
     }

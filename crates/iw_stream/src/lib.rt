@@ -6,8 +6,9 @@
 //!
 //! 1. posts receive buffers (`post_recv`) and, once the stream is open, messages and Reads (`post`);
 //! 2. sends what `emit` appends, until it answers [`Emission::Nothing`];
-//! 3. reads octets from the connection right to where they are to stand (`read_from`), or hands in octets that came, with their
-//!    sequence number (`deliver`; `first_number` sets that of the peer's first octet), in any order;
+//! 3. reads octets from the connection right to where they are to stand (`read_from`; with a call of its own, as C does,
+//!    `lend_place` and `came`), or hands in octets that came, with their sequence number (`deliver`; `first_number` sets that
+//!    of the peer's first octet), in any order;
 //! 4. calls `work` until it answers [`Step::Idle`]: each call does one step and says what it did. If it answers
 //!    [`Step::Asked`], the owner accepts or rejects the peer's Request.
 //!
@@ -19,8 +20,53 @@
 //!
 //! After 3 and 4 there may be more to emit. The regions that the peer may use are an `iw_memory::Memory`, lent to each call
 //! of `work`, and of `emit`, which answers the peer's Reads from them. No call but `read_from` does input or output. `post`,
-//! `post_recv`, `deliver`, `read_from` and `emit` may be out of memory, and so may `work` when it judges a frame before its
-//! turn; such a call changes nothing.
+//! `post_recv`, `deliver`, `read_from`, `lend_place` and `emit` may be out of memory, and so may `work` when it judges a frame
+//! before its turn; such a call changes nothing.
+//!
+//! # Example
+//!
+//! Parts of `crates/embedding`, which is the whole program: a stream at each end, and a message that goes from one to the
+//! other, in one frame. `post_recv` and `post_send` call [`Stream::post_recv`] and [`Stream::post`], and make an error of a
+//! refusal.
+//!
+//! ```text
+//! // A stream that is open at once, without start-up frames.
+//! fn open(alloc: Global) -> Result<Stream> {
+//!     let config = Config { markers: true, crc: true, establishment: Establishment::Plain, private: PrivateData::new() };
+//!     Ok(Stream::new(alloc, DOMAIN, Role::Preset, config)?)
+//! }
+//!
+//! // Emits the next frame of `from`, and delivers it to `to` with the sequence number of its first octet.
+//! fn pass(from: &mut Stream, to: &mut Stream, memory: &Memory, wire: &mut Vec<u8>) -> Result<()> {
+//!     let place = from.sent();
+//!     if place > MAX_PLACE {
+//!         bail!("too many octets were emitted");
+//!     }
+//!     from.emit(memory, wire)?;
+//!     to.deliver((place % (1 << 32)) as u32, wire.as_slice())?;
+//!     Ok(())
+//! }
+//!
+//! // Works up to a message that came whole, and returns how many octets it has.
+//! fn receive(stream: &mut Stream, memory: &mut Memory) -> Result<Option<usize>> {
+//!     for _ in 0..u64::MAX {
+//!         if stream.in_order_point() > MAX_PLACE {
+//!             bail!("too many octets came");
+//!         }
+//!         match stream.work(memory)? {
+//!             Step::Received { len, .. } => return Ok(Some(len)),
+//!             Step::Idle => break,
+//!             _ => {}
+//!         }
+//!     }
+//!     Ok(None)
+//! }
+//!
+//! post_recv(receiver, vec![in alloc; 0; 64]?)?;
+//! post_send(sender, Bytes::copy_from_slice(alloc, TEXT)?)?;
+//! pass(sender, receiver, memory, &mut wire)?;
+//! receive(receiver, memory)
+//! ```
 #![tactic(auto)]
 
 mod answer;
@@ -36,15 +82,16 @@ mod turning;
 
 pub use answer::{
     AnswerRefusal, Emission, FirstRefusal, INSUFFICIENT_IRD, NO_MATCHING_RTR, OpenRefusal,
-    PostRefusal, RecvRefusal, Role, SizeRefusal, Step,
+    PostRefusal, RecvRefusal, Role, SizeRefusal, Standing, Step,
 };
 pub use ending::Ending;
-pub use intake::{Intake, MOST_READ};
+pub use intake::{Intake, LendRefusal, MOST_READ};
 pub use iw_queues::{Kind, Request};
 pub use iw_ranges::Delivery;
 pub use iw_reads::{Asked, Outstanding, ResponsePart};
 pub use iw_startup::{
-    Agreed, Config, EnhancedData, Establishment, MAX_ENHANCED_PRIVATE, PrivateData, StartupFault,
+    Agreed, Config, EnhancedData, Establishment, MAX_ENHANCED_PRIVATE, PeerOptions, PrivateData,
+    StartupFault,
 };
 pub use judging::{Landing, PlacedFrame, Turning};
 pub use starting::exceeds_request;

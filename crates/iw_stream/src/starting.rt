@@ -16,7 +16,7 @@ use iw_fpdu::Layout;
 use iw_octets::{Fault, MAX_UNANSWERED};
 use iw_startup::{
     Agreed, Config, EnhancedData, Establishment, MAX_ENHANCED_PRIVATE, MAX_FRAME, Mismatch,
-    PrivateData, Progress, Rtr, Startup,
+    PeerOptions, PrivateData, Progress, Rtr, Startup,
 };
 use std::alloc::{AllocError, Allocator};
 use std::marker::Model;
@@ -135,7 +135,7 @@ pub(crate) fn negotiation_fault(mismatch: Mismatch) -> Fault
 impl Start {
     ghost use Rattle.iw_stream.specs.Starting.{Unheard, start_at_first, is_open, sending, expecting, most_reads_in, rtr_in};
     ghost use Rattle.iw_stream.specs.Starting.{own_frame, first_place_in, first_place_out, is_responder};
-    ghost use Rattle.iw_stream.specs.Starting.{awaits_frame, progress_in, heard, private_in, told_in};
+    ghost use Rattle.iw_stream.specs.Starting.{awaits_frame, progress_in, heard, private_in, told_in, options_in};
     ghost use Rattle.iw_stream.specs.Starting.{agreed_in, agreement_in, mismatch_in, answered_with};
 
     /// Open at once, with the markers and CRCs that `config` asks for in both directions, or with start-up frames, which
@@ -279,6 +279,16 @@ impl Start {
     {
         match &self.frames {
             Some(startup) if self.heard => startup.told(),
+            _ => None,
+        }
+    }
+
+    /// What the peer asks for in its start-up frame, once that was read.
+    pub(crate) fn peer_options(&self) -> Option<PeerOptions>
+        ensures { result ≡ options_in self.now }
+    {
+        match &self.frames {
+            Some(startup) if self.heard => startup.peer_options(),
             _ => None,
         }
     }

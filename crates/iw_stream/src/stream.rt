@@ -2,18 +2,21 @@ ghost use Rattle.std.specs.Prelude.{◌≡◌, ◌-◌, length, true, false, Non
 ghost use Rattle.std.specs.Result.{result_err};
 ghost use Rattle.iw_ranges.specs.Arrived.{BringsOctets};
 ghost use Rattle.iw_stream.specs.Ending.{has_ended, last_word};
-ghost use Rattle.iw_stream.specs.Starting.{is_open, exceeds_request, private_in, told_in, agreement_in};
+ghost use Rattle.iw_stream.specs.Starting.{is_open, exceeds_request, private_in, told_in, options_in, agreement_in};
 ghost use Rattle.iw_stream.specs.Stream.{post_refusal_of, recv_refusal_of};
 
 mod emission;
 mod judgement;
+mod lending;
 mod reading;
 mod room;
 mod tasks;
 mod turns;
 
 use self::emission::is_read;
-use crate::answer::{AnswerRefusal, FirstRefusal, PostRefusal, RecvRefusal, Role, SizeRefusal};
+use crate::answer::{
+    AnswerRefusal, FirstRefusal, PostRefusal, RecvRefusal, Role, SizeRefusal, Standing,
+};
 use crate::emitting::Numbers;
 use crate::ending::Ending;
 use crate::incoming::Incoming;
@@ -21,12 +24,13 @@ use crate::judging::PlacedFrame;
 use crate::starting::Start;
 use crate::terminating::{LastWord, over};
 use bytes::Bytes;
+use iw_memory::Peer;
 use iw_octets::MAX_ULPDU;
 use iw_queues::{Refusal, Request, SendQueue};
 use iw_ranges::Delivery;
 use iw_ranges::nearest::near;
 use iw_reads::{Reads, Requests};
-use iw_startup::{Agreed, Config, EnhancedData, PrivateData};
+use iw_startup::{Agreed, Config, EnhancedData, PeerOptions, PrivateData};
 use iw_untagged::{BufferRefusal, RecvQueue};
 use std::alloc::{AllocError, Allocator, Global};
 use std::marker::Model;
@@ -47,6 +51,8 @@ pub struct Stream<A: Allocator = Global> {
     front: Option<PlacedFrame>,
     ending: Ending,
     domain: u8,
+    // The stream's number in its domain, if it was given one.
+    number: Option<u32>,
     mulpdu: usize,
     sent: u64,
     numbers: Numbers,
@@ -94,7 +100,7 @@ fn recv_refusal_of(refusal: BufferRefusal) -> RecvRefusal
 }
 
 impl<A: Allocator> Stream<A> {
-    ghost use Rattle.iw_stream.specs.Stream.{opened, opened_shared, shares, ended, quits, ends_by, breaks, answer_refusal, accepted, rejected};
+    ghost use Rattle.iw_stream.specs.Stream.{opened, opened_shared, numbered, peer_of, shares, ended, standing_of, quits, ends_by, breaks, answer_refusal, accepted, rejected};
     ghost use Rattle.iw_stream.specs.Stream.{post_refusal, with_request, recv_refusal, with_buffer};
     ghost use Rattle.iw_stream.specs.Stream.{first_refusal, with_first, place_of, left_out};
     ghost use Rattle.iw_stream.specs.Stream.{delivery_of, after_deliver, size_refusal, with_mulpdu};
@@ -155,6 +161,7 @@ impl<A: Allocator> Stream<A> {
             front: None,
             ending: Ending::Runs,
             domain,
+            number: None,
             mulpdu: FIRST_MULPDU,
             sent: 0,
             numbers: Numbers::first(),
@@ -173,6 +180,31 @@ impl<A: Allocator> Stream<A> {
         ensures { result ≡ self.now.domain }
     {
         self.domain
+    }
+
+    /// Gives the stream a number in its domain, so that its peer may use the regions that are limited to it (RFC 5042 2.2.5).
+    /// Of several calls the last counts.
+    pub fn set_number(&mut self, number: u32)
+        ensures { self.new ≡ numbered self.old number }
+    {
+        self.number = Some(number);
+    }
+
+    /// Who asks for the use of regions on the stream: its peer, by the stream's domain and its number, if it was given one.
+    pub fn peer(&self) -> Peer
+        ensures { result ≡ peer_of self.now }
+    {
+        Peer {
+            domain: self.domain,
+            stream: self.number,
+        }
+    }
+
+    /// Whether the stream has ended.
+    pub fn has_ended(&self) -> bool
+        ensures { result ≡ ended self.now }
+    {
+        self.ending.has_ended()
     }
 
     /// Whether the stream shares a pool.
@@ -256,6 +288,26 @@ impl<A: Allocator> Stream<A> {
         ensures { result ≡ told_in self.now.start }
     {
         self.start.told()
+    }
+
+    /// What the peer asks for in its start-up frame, once that was read.
+    pub fn peer_options(&self) -> Option<PeerOptions>
+        ensures { result ≡ options_in self.now.start }
+    {
+        self.start.peer_options()
+    }
+
+    /// Whether the stream is starting, is open or has ended.
+    pub fn standing(&self) -> Standing
+        ensures { result ≡ standing_of self.now }
+    {
+        if self.ending.has_ended() {
+            return Standing::Ended;
+        }
+        if self.start.is_open() {
+            return Standing::Open;
+        }
+        Standing::Starting
     }
 
     /// Posts a message or a Read after the others. An `Err` changes nothing, and hands back what was to be posted.

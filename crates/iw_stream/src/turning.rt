@@ -1,7 +1,7 @@
 ghost use Rattle.std.specs.Result.{result_err};
 ghost use Rattle.std.specs.Option.{option_map};
 ghost use Rattle.std.specs.Prelude.{◌≡◌, ◌+◌, ◌≤◌, length, IfOk, OnOk, OnErr};
-ghost use Rattle.iw_memory.specs.Table.{invalidate_denial, invalidated};
+ghost use Rattle.iw_memory.specs.Table.{invalidate_denial_for, invalidated};
 ghost use Rattle.iw_octets.specs.Stag.{stag_of};
 ghost use Rattle.iw_untagged.specs.Receiving.{HasRoom, turned};
 ghost use Rattle.iw_stream.specs.Frames.{placed, head_in, payload_len};
@@ -11,7 +11,7 @@ ghost use Rattle.iw_stream.specs.Judging.{segment_turn, receiving_turned, reads_
 ghost use Rattle.iw_stream.specs.Kept.{HasRoomInTurn, IsPosted};
 
 use crate::judging::{PlacedFrame, Turning};
-use iw_memory::{InvalidateDeny, Memory};
+use iw_memory::{InvalidateDeny, Memory, Peer};
 use iw_octets::{Fault, Segment, Short, Stag, TaggedHead, TaggedOperation, UntaggedHead};
 use iw_rdmap::UntaggedOperation;
 use iw_reads::Reads;
@@ -69,13 +69,13 @@ fn invalidate_fault(deny: InvalidateDeny) -> Fault
     }
 }
 
-// Invalidates a region for a peer in this domain. An `Err` changes nothing.
-fn invalidate<A: Allocator>(stag: Stag, domain: u8, memory: &mut Memory<A>) -> Result<(), Fault>
-    ensures denied { result_err result ≡ option_map invalidate_fault (invalidate_denial memory.old domain stag) }
+// Invalidates a region for this peer. An `Err` changes nothing.
+fn invalidate<A: Allocator>(stag: Stag, peer: Peer, memory: &mut Memory<A>) -> Result<(), Fault>
+    ensures denied { result_err result ≡ option_map invalidate_fault (invalidate_denial_for memory.old peer stag) }
     ensures ok { OnOk result (memory.new ≡ invalidated memory.old stag) }
     ensures err { OnErr result (memory.new ≡ memory.old) }
 {
-    match memory.invalidate_remote(domain, stag) {
+    match memory.invalidate_remote_for(peer, stag) {
         Ok(()) => Ok(()),
         Err(deny) => Err(invalidate_fault(deny)),
     }
@@ -85,12 +85,12 @@ fn invalidate<A: Allocator>(stag: Stag, domain: u8, memory: &mut Memory<A>) -> R
 fn turn_send<A: Allocator, B: Allocator>(
     head: UntaggedHead,
     n: usize,
-    domain: u8,
+    peer: Peer,
     memory: &mut Memory<B>,
     receiving: &mut RecvQueue<A>,
 ) -> Result<Turning, Fault>
     requires { head.msn ≡ receiving.old.due → HasRoom receiving.old (head.mo + n) }
-    ensures turn { result ≡ send_turn memory.old domain receiving.old head }
+    ensures turn { result ≡ send_turn memory.old peer receiving.old head }
     ensures ok { OnOk result (receiving.new ≡ turned receiving.old n) }
     ensures memory { IfOk result (λ turning. memory.new ≡ table_turned memory.old turning) }
     ensures err { OnErr result ((receiving.new ≡ receiving.old) × (memory.new ≡ memory.old)) }
@@ -103,7 +103,7 @@ fn turn_send<A: Allocator, B: Allocator>(
     {
         // With no octets a turn is its checks alone.
         receiving.turn(head.msn, head.mo, 0)?;
-        invalidate(stag, domain, memory)?;
+        invalidate(stag, peer, memory)?;
     }
     receiving.turn(head.msn, head.mo, n)?;
     Ok(turning)
@@ -166,14 +166,14 @@ fn turn_tagged<A: Allocator>(
 #[inline(always)]
 pub(crate) fn turn_frame<A: Allocator, B: Allocator>(
     frame: &PlacedFrame,
-    domain: u8,
+    peer: Peer,
     reads: &mut Reads<B>,
     memory: &mut Memory<B>,
     receiving: &mut RecvQueue<A>,
 ) -> Result<Turning, Fault>
     requires header { length frame.now.header.items ≤ frame.now.len }
     requires room { HasRoomInTurn receiving.old (payload_len frame.now) (head_in frame.now) }
-    ensures turn { result ≡ segment_turn memory.old domain receiving.old reads.old (payload_len frame.now) (head_in frame.now) }
+    ensures turn { result ≡ segment_turn memory.old peer receiving.old reads.old (payload_len frame.now) (head_in frame.now) }
     ensures receiving { OnOk result (receiving.new ≡ receiving_turned receiving.old frame.now) }
     ensures reads { OnOk result (reads.new ≡ reads_left reads.old frame.now) }
     ensures memory { IfOk result (λ turning. memory.new ≡ table_turned memory.old turning) }
@@ -185,7 +185,7 @@ pub(crate) fn turn_frame<A: Allocator, B: Allocator>(
         Ok(Segment::Tagged(head, _)) => turn_tagged(head, frame.payload_len(), reads),
         Ok(Segment::Untagged(head, _)) => {
             receiving.limits();
-            turn_send(head, frame.payload_len(), domain, memory, receiving)
+            turn_send(head, frame.payload_len(), peer, memory, receiving)
         }
     }
 }

@@ -1,7 +1,7 @@
 //! Octets that are read in place: to where they stand past the last that came.
 ghost use Rattle.std.specs.Prelude.{◌≡◌, ◌<◌, ◌≤◌, take, [], IfOk, OnErr};
 ghost use Rattle.std.specs.Io.KnownBytes.{Consumes, IsAtEnd, Keeps};
-ghost use Rattle.iw_ranges.specs.Arrived.{HasNoGap, IsReadyFor};
+ghost use Rattle.iw_ranges.specs.Arrived.{IsReadyFor};
 ghost use Rattle.iw_stream.specs.Reading.{Brings, Reads, room_ahead};
 
 use super::Incoming;
@@ -46,7 +46,7 @@ fn read_in_place<A: Allocator, R: Read>(
     if got == 0 {
         return Ok(0);
     }
-    let place = islands.missing();
+    let place = islands.end();
     islands.came_in_place(place, got);
     Ok(got)
 }
@@ -54,12 +54,11 @@ fn read_in_place<A: Allocator, R: Read>(
 impl<A: Allocator> Incoming<A> {
     ghost use Rattle.iw_stream.specs.Incoming.{IsSameStart};
 
-    // For how many octets the window has room past the last that came, if none before it is missing.
-    fn room(&self) -> usize
-        ensures room { HasNoGap self.now.arrived → result ≡ room_ahead self.now.arrived }
-        ensures none { result ≡ 0 → room_ahead self.now.arrived ≡ 0 }
+    // For how many octets the window has room past the last that came.
+    pub(super) fn room(&self) -> usize
+        ensures { result ≡ room_ahead self.now.arrived }
     {
-        (self.islands.floor() + WINDOW - self.islands.missing()) as usize
+        (self.islands.floor() + WINDOW - self.islands.end()) as usize
     }
 
     /// One read of at most 65,536 octets, and no more than the window has room for, to where they are to stand. An `Err`
@@ -71,13 +70,10 @@ impl<A: Allocator> Incoming<A> {
         ensures same { IsSameStart self.old self.new }
     {
         let n = self.room().min(MOST_READ);
-        if n == 0 {
+        if n == 0 || !self.islands.make_room(n)? {
             return Ok(Intake::Full);
         }
-        if !self.islands.make_room(n)? {
-            return Ok(Intake::Gap);
-        }
-        let place = self.islands.missing();
+        let place = self.islands.end();
         let got = read_in_place(&mut self.islands, from, n)?;
         if got == 0 {
             return Ok(Intake::End);

@@ -18,7 +18,7 @@ use crate::emitting::{Numbers, rtr_request, write_part, write_rtr, write_tagged,
 use crate::ending::Ending;
 use crate::terminating::terminate_fetched;
 use bytes::Bytes;
-use iw_memory::Memory;
+use iw_memory::{Memory, Peer};
 use iw_octets::Message;
 use iw_queues::{Part, Request};
 use iw_reads::{Reads, ResponsePart, fetch};
@@ -295,7 +295,14 @@ impl<A: Allocator> Stream<A> {
         ensures room { vec_len out.old + length (octets_due memory.now self.old (Response part)) ≤ vec_capacity out.old → OnErr result (BeginsReads self.old (Response part)) }
         ensures denied { (fault : Fault) → emission_due memory.now self.old (Response part) ≡ Emission.Fault fault → is_ok result ≡ true }
     {
-        match fetch(&part, memory, self.domain) {
+        match fetch(
+            &part,
+            memory,
+            Peer {
+                domain: self.domain,
+                stream: self.number,
+            },
+        ) {
             Ok(octets) => self.emit_fetched(part, octets, out),
             Err(fault) => {
                 let terminate = terminate_fetched(&self.asked, fault);

@@ -4,7 +4,7 @@ ghost use Rattle.iw_fpdu.specs.Found.{HoldsSpan};
 ghost use Rattle.iw_locate.specs.Records.{max_records, added};
 ghost use Rattle.iw_locate.specs.Next.{IsNext};
 ghost use Rattle.iw_locate.specs.Unsearched.{IsFollowed};
-ghost use Rattle.iw_stream.specs.Frames.{Frame, frame_by, state_tried, record_tried, without};
+ghost use Rattle.iw_stream.specs.Frames.{Frame, frame_by, placed as placed_of, state_tried, record_tried, without};
 ghost use Rattle.iw_stream.specs.Incoming.{IsSameStart, scene_in, frame_in};
 ghost use Rattle.iw_stream.specs.Judging.{early_verdict, table_tried, receiving_tried};
 ghost use Rattle.iw_stream.specs.Kept.{IsWithinBuffer};
@@ -22,11 +22,11 @@ use crate::judging::{
     Header, Landing, PlacedFrame, header_of, keep_frame, keep_tagged, land_early, land_frame,
     land_tagged, landing_of, placed_frame, tagged_parts,
 };
-use crate::terminating::{terminate_clashed, terminate_judged};
+use crate::terminating::{LastWord, terminate_clashed, terminate_judged};
 use crate::turning::is_response;
 use iw_fpdu::Fpdu;
 use iw_locate::{Frame as EarlyFrame, Next, State};
-use iw_memory::{Memory, Right};
+use iw_memory::{Memory, Peer, Right};
 use iw_octets::{Fault, Octets, ReadRequest, UNTAGGED_HEADER};
 use iw_rdmap::tagged_head;
 use iw_reads::{Asked, Reads, Requests};
@@ -67,6 +67,24 @@ pub(crate) fn landed_step<A: Allocator>(landing: Landing) -> Step<Octets<A>>
     }
 }
 
+// Keeps what is kept of a frame whose octets were placed with this right, and says so. The frame begins at frame place `start`.
+#[inline(always)]
+fn keep_placed<A: Allocator, B: Allocator>(
+    kept: &mut Option<PlacedFrame>,
+    fpdu: &Fpdu<'_, A>,
+    start: u64,
+    right: Right,
+    placed: Placed,
+) -> Step<Octets<B>>
+    requires holds { HoldsSpan fpdu.now }
+    requires start { start ≡ fpdu.now.start }
+    ensures kept { kept.new ≡ Some (placed_of (frame_by fpdu.now)) }
+    ensures step { result ≡ Step.Placed right placed.stag placed.to placed.n }
+{
+    keep_frame(kept, fpdu, start);
+    placed_step(right, placed)
+}
+
 // What is said of a Read Request that was taken up.
 fn requested_step<A: Allocator>(request: ReadRequest) -> Step<Octets<A>>
     ensures { result ≡ Step.Requested request.size request.source request.source_to }
@@ -100,7 +118,7 @@ fn state_tried<A: Allocator>(landing: &Option<Landing>, fpdu: &Fpdu<'_, A>) -> S
 fn judge_early<A: Allocator, B: Allocator>(
     frame: EarlyFrame,
     arrived: &mut Incoming<A>,
-    domain: u8,
+    peer: Peer,
     reads: &Reads<B>,
     asked: &Requests,
     memory: &mut Memory<B>,
@@ -113,7 +131,7 @@ fn judge_early<A: Allocator, B: Allocator>(
     requires next { IsNext (scene_in arrived.old) (Next.Frame frame) }
     requires early { frame.early ≡ true }
     requires followed { IsFollowed arrived.old.unsearched frame }
-    ensures landed { result ≡ early_verdict (record { table = memory.old; domain = domain; receiving = receiving.old; reads = reads.now; asked = asked.now }) (frame_in arrived.old frame.start) }
+    ensures landed { result ≡ early_verdict (record { table = memory.old; peer = peer; receiving = receiving.old; reads = reads.now; asked = asked.now }) (frame_in arrived.old frame.start) }
     ensures memory { memory.new ≡ table_tried memory.old (frame_in arrived.old frame.start) result }
     ensures receiving { receiving.new ≡ receiving_tried receiving.old (frame_in arrived.old frame.start) result }
     ensures arrived { let frame = frame_in arrived.old frame.start in
@@ -122,14 +140,14 @@ fn judge_early<A: Allocator, B: Allocator>(
     ensures same { IsSameStart arrived.old arrived.new }
 {
     let fpdu = arrived.read_early(&frame);
-    let landing = land_early(&fpdu, domain, reads, asked, memory, receiving);
+    let landing = land_early(&fpdu, peer, reads, asked, memory, receiving);
     let state = state_tried(&landing, &fpdu);
     arrived.keep(frame, state);
     landing
 }
 
 impl<A: Allocator> Stream<A> {
-    ghost use Rattle.iw_stream.specs.Stream.{ended, ends};
+    ghost use Rattle.iw_stream.specs.Stream.{ended, ends, ends_by};
     ghost use Rattle.iw_stream.specs.Work.{Judge, Try, Rest, IsTry, waiting, clashes, takes_up, beyond};
     ghost use Rattle.iw_stream.specs.Work.{next_frame, early_frame, frame_task, step_of, left_by, table_left};
     ghost use Rattle.iw_stream.specs.Kept.{Stands, NoneReachesOver};
@@ -174,7 +192,10 @@ impl<A: Allocator> Stream<A> {
             head,
             &fpdu,
             payload,
-            self.domain,
+            Peer {
+                domain: self.domain,
+                stream: self.number,
+            },
             &self.reads,
             memory,
         ) {
@@ -218,6 +239,7 @@ impl<A: Allocator> Stream<A> {
         ensures within { IsWithinBuffer result }
     {
         self.arrived.limits();
+        let (domain, stream) = (self.domain, self.number);
         let base = self.start.first_place_in();
         let layout = self.start.expecting();
         let start = layout.start_of(self.arrived.floor() - base);
@@ -226,7 +248,7 @@ impl<A: Allocator> Stream<A> {
         };
         match land_frame(
             &fpdu,
-            self.domain,
+            Peer { domain, stream },
             &self.reads,
             &self.asked,
             memory,
@@ -234,16 +256,13 @@ impl<A: Allocator> Stream<A> {
         ) {
             Err(fault) => {
                 let terminate = terminate_judged(&fpdu, fault, &self.asked);
-                self.end_by(terminate);
-                Step::Fault(fault)
+                self.end_at(terminate, fault)
             }
             Ok(Landing::Write(placed)) => {
-                keep_frame(&mut self.front, &fpdu, start);
-                placed_step(Right::Write, placed)
+                keep_placed(&mut self.front, &fpdu, start, Right::Write, placed)
             }
             Ok(Landing::Response(placed)) => {
-                keep_frame(&mut self.front, &fpdu, start);
-                placed_step(Right::Sink, placed)
+                keep_placed(&mut self.front, &fpdu, start, Right::Sink, placed)
             }
             Ok(Landing::Send { msn, mo, len }) => {
                 keep_frame(&mut self.front, &fpdu, start);
@@ -258,6 +277,18 @@ impl<A: Allocator> Stream<A> {
                 self.hear_out(frame, fault)
             }
         }
+    }
+
+    // An open stream has ended by this fault, which has this Terminate.
+    #[inline(always)]
+    fn end_at(&mut self, terminate: LastWord, fault: Fault) -> Step<Octets<A>>
+        requires { is_open self.old.start ≡ true }
+        ensures step { result ≡ Step.Fault fault }
+        ensures after { self.new ≡ ends_by self.old terminate.items }
+        ensures within { IsWithinBuffer result }
+    {
+        self.end_by(terminate);
+        Step::Fault(fault)
     }
 
     // Takes up the Read Request in the frame at the in-order point, which has its turn at once.
@@ -450,7 +481,10 @@ impl<A: Allocator> Stream<A> {
         match judge_early(
             frame,
             &mut self.arrived,
-            self.domain,
+            Peer {
+                domain: self.domain,
+                stream: self.number,
+            },
             &self.reads,
             &self.asked,
             memory,

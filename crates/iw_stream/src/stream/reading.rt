@@ -68,7 +68,6 @@ impl<A: Allocator> Stream<A> {
             }
             Ok(Intake::End) => Ok(Intake::End),
             Ok(Intake::Full) => Ok(Intake::Full),
-            Ok(Intake::Gap) => Ok(Intake::Gap),
             Err(error) => Err(error),
         }
     }

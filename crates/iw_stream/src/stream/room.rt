@@ -1,4 +1,4 @@
-ghost use Rattle.std.specs.Prelude.{◌≡◌, ◌+◌, ◌≤◌, ◌^◌, ℕ, List, length, Some};
+ghost use Rattle.std.specs.Prelude.{◌≡◌, ◌+◌, ◌≤◌, ◌^◌, ℕ, List, length, not, Some};
 ghost use Rattle.std.specs.Option.{option_map_or};
 ghost use Rattle.iw_octets.specs.declared.segment.Segment.{Segment};
 ghost use Rattle.iw_octets.specs.Segment.{segment_octets};
@@ -13,7 +13,7 @@ use super::Stream;
 use super::emission::must_wait;
 use crate::ending::Ending;
 use bytes::Bytes;
-use iw_memory::Memory;
+use iw_memory::{Memory, Peer};
 use iw_octets::{Message, READ_REQUEST_HEADER, TAGGED_HEADER, UNTAGGED_HEADER};
 use iw_queues::{Part, Request};
 use iw_reads::{ResponsePart, fetch};
@@ -47,7 +47,7 @@ fn rtr_len(rtr: Rtr) -> usize
 
 impl<A: Allocator> Stream<A> {
     ghost use Rattle.iw_stream.specs.Stream.{part_due, response_due, message_due, frame_of, octets_due, emitted};
-    ghost use Rattle.iw_stream.specs.Stream.{NextPart, Response, NoneDue};
+    ghost use Rattle.iw_stream.specs.Stream.{NextPart, Response, NoneDue, due, is_none_due};
 
     /// How many octets the next call of [`Stream::emit`] appends, unless it is out of memory: none if nothing is due, or if
     /// the peer may not read what is to be fetched.
@@ -68,6 +68,47 @@ impl<A: Allocator> Stream<A> {
             Some(rtr) => self.frame_len(rtr_len(rtr)),
             None => self.message_len(memory),
         }
+    }
+
+    /// Whether the next call of [`Stream::emit`] has something to tell: octets to append, or that the peer may not read what is
+    /// to be fetched.
+    pub fn has_due(&self) -> bool
+        ensures { result ≡ not (is_none_due (due self.now)) }
+    {
+        if self.owes_frame() {
+            return true;
+        }
+        if let Ending::Over(Some(_)) = &self.ending {
+            return true;
+        }
+        if self.is_mute() {
+            return false;
+        }
+        match self.rtr_due() {
+            Some(_) => true,
+            None => self.has_message(),
+        }
+    }
+
+    // Whether a response or a message is due.
+    fn has_message(&self) -> bool
+        ensures { result ≡ not (is_none_due (message_due self.now)) }
+    {
+        match self.response_due() {
+            Some(_) => true,
+            None => self.has_part(),
+        }
+    }
+
+    // Whether a part of what was posted is due.
+    fn has_part(&self) -> bool
+        ensures { result ≡ not (is_none_due (option_map_or NextPart (part_due self.now) NoneDue)) }
+    {
+        self.queue.limits();
+        let Some(part) = self.queue.next_part(self.mulpdu) else {
+            return false;
+        };
+        !must_wait(self.start.most_reads(), &self.reads, part.message)
     }
 
     // The length of the frame of a response or a message that is due.
@@ -98,7 +139,14 @@ impl<A: Allocator> Stream<A> {
         requires due { response_due self.now ≡ Some part.now }
         ensures { result ≡ length (octets_due memory.now self.now (Response part.now)) }
     {
-        match fetch(part, memory, self.domain) {
+        match fetch(
+            part,
+            memory,
+            Peer {
+                domain: self.domain,
+                stream: self.number,
+            },
+        ) {
             Ok(octets) => self.frame_len(TAGGED_HEADER + octets.len()),
             Err(_) => 0,
         }

@@ -1,4 +1,4 @@
-ghost use Rattle.std.specs.Prelude.{◌≡◌, ◌+◌, ◌≤◌, ◌^◌, true, false, Some, None, IfOk, OnOk, OnErr};
+ghost use Rattle.std.specs.Prelude.{◌≡◌, ◌+◌, ◌≤◌, ◌^◌, true, false, Some, None, IsTrue, IfOk, OnOk, OnErr};
 ghost use Rattle.iw_memory.specs.Table.{Table};
 ghost use Rattle.iw_stream.specs.Starting.{is_open, awaits_frame, agreed_in, agreement_in, mismatch_in};
 
@@ -17,7 +17,7 @@ use std::alloc::{AllocError, Allocator};
 impl<A: Allocator> Stream<A> {
     ghost use Rattle.iw_stream.specs.Stream.{ended, shares, sees, due, is_none_due};
     ghost use Rattle.iw_untagged.specs.Receiving.{exchanged};
-    ghost use Rattle.iw_stream.specs.Work.{Hear, IsTry, task, frame_task, handing_back, is_rest, is_at_rest, opened_step, after_opening};
+    ghost use Rattle.iw_stream.specs.Work.{Hear, Rest, IsTry, judges, task, frame_task, handing_back, is_rest, is_at_rest, opened_step, after_opening};
     ghost use Rattle.iw_stream.specs.Work.{step_of, left_by, table_left, work_step, worked, table_worked, worked_with, pool_left};
     ghost use Rattle.iw_stream.specs.Kept.{IsWithinBuffer};
 
@@ -83,10 +83,46 @@ impl<A: Allocator> Stream<A> {
         ensures reach { self.new.arrived.floor ≤ self.old.arrived.floor + 2 ^ 18 }
         ensures within { IfOk result IsWithinBuffer }
     {
+        if self.judges_none() {
+            return self.work(memory);
+        }
         self.lend(pool);
         let step = self.work(memory);
         self.lend(pool);
         step
+    }
+
+    // Whether it is clear without a search that the next step judges no frame. `false` is always a right answer: it only costs
+    // time.
+    #[inline(always)]
+    fn judges_none(&self) -> bool
+        requires { self.now.arrived.floor ≤ 2 ^ 62 }
+        ensures { IsTrue result → judges (task self.now) ≡ false }
+    {
+        if self.ending.has_ended() {
+            return true;
+        }
+        if !self.start.is_open() {
+            return true;
+        }
+        if self.front.is_some() {
+            return true;
+        }
+        self.is_idle()
+    }
+
+    // Whether it is clear without a search that no frame can be given its turn or judged. `false` is always a right answer.
+    #[inline(always)]
+    fn is_idle(&self) -> bool
+        requires none { self.now.front ≡ None }
+        requires place { self.now.arrived.floor ≤ 2 ^ 62 }
+        ensures { IsTrue result → frame_task self.now ≡ Rest }
+    {
+        self.arrived.limits();
+        if self.arrived.missing() > self.arrived.floor() {
+            return false;
+        }
+        self.is_quiet()
     }
 
     /// Whether the stream has ended, nothing is left to hand out, and nothing is due to go out: [`Stream::work`] then answers

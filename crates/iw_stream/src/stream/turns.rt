@@ -11,7 +11,7 @@ use crate::incoming::frame_at;
 use crate::judging::{PlacedFrame, Turning};
 use crate::terminating::terminate_turned;
 use crate::turning::{is_response, turn_frame, turn_reads};
-use iw_memory::Memory;
+use iw_memory::{Memory, Peer};
 use iw_octets::{Octets, Segment};
 use iw_rdmap::tagged_head;
 use iw_untagged::Received;
@@ -244,11 +244,12 @@ impl<A: Allocator> Stream<A> {
     {
         self.arrived.limits();
         self.receiving.limits();
+        let (domain, stream) = (self.domain, self.number);
         let end = self.start.expecting().end_of(frame.start, frame.len);
         let place = self.start.first_place_in() + end;
         let turning = match turn_frame(
             &frame,
-            self.domain,
+            Peer { domain, stream },
             &mut self.reads,
             memory,
             &mut self.receiving,

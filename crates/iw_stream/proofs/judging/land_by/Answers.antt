@@ -27,7 +27,7 @@ judge-requires g c =
 pub returns-in-Err-clause-landed : goal.returns-in-Err-clause-landed
 returns-in-Err-clause-landed g c =
     let u = ulpdu c.args.fpdu.now in
-    let at : Standing = record { table = c.args.memory.now; domain = c.args.domain; receiving = c.args.receiving.now; reads = c.args.reads.now; asked = c.args.asked.now } in
+    let at : Standing = record { table = c.args.memory.now; peer = c.args.peer; receiving = c.args.receiving.now; reads = c.args.reads.now; asked = c.args.asked.now } in
     let said = judged_by u c.args.first.now c.len.result c.next_msn.result c.len-2.result at c.requires.first (c.len.ensures.len ∙ sym (length_ulpdu c.args.fpdu.now)) c.next_msn.ensures c.len-2.ensures.len in
     ap (λ r. head_verdict at r (length (payload_of (read_segment u)))) (sym c.in-Err.is ∙ c.judge.ensures.judged ∙ said)
 
@@ -35,7 +35,7 @@ pub returns-in-Ok-clause-landed : goal.returns-in-Ok-clause-landed
 returns-in-Ok-clause-landed g c =
     let u = ulpdu c.args.fpdu.now in
     let head = c.in-Ok.head in
-    let at : Standing = record { table = c.args.memory.now; domain = c.args.domain; receiving = c.args.receiving.now; reads = c.args.reads.now; asked = c.args.asked.now } in
+    let at : Standing = record { table = c.args.memory.now; peer = c.args.peer; receiving = c.args.receiving.now; reads = c.args.reads.now; asked = c.args.asked.now } in
     let said = judged_by u c.args.first.now c.len.result c.next_msn.result c.len-2.result at c.requires.first (c.len.ensures.len ∙ sym (length_ulpdu c.args.fpdu.now)) c.next_msn.ensures c.len-2.ensures.len in
     let is : judged_head at u ≡ Ok c.in-Ok.head = sym said ∙ sym c.judge.ensures.judged ∙ c.in-Ok.is in
     let p : HasPayload u c.in-Ok.head = has_payload u (length c.args.asked.now.unanswered) head (judges u c.args.asked.now.next (length c.args.asked.now.unanswered) head is) in
@@ -47,7 +47,7 @@ pub returns-in-Ok-clause-memory : goal.returns-in-Ok-clause-memory
 returns-in-Ok-clause-memory g c =
     let u = ulpdu c.args.fpdu.now in
     let head = c.in-Ok.head in
-    let at : Standing = record { table = c.args.memory.now; domain = c.args.domain; receiving = c.args.receiving.now; reads = c.args.reads.now; asked = c.args.asked.now } in
+    let at : Standing = record { table = c.args.memory.now; peer = c.args.peer; receiving = c.args.receiving.now; reads = c.args.reads.now; asked = c.args.asked.now } in
     let said = judged_by u c.args.first.now c.len.result c.next_msn.result c.len-2.result at c.requires.first (c.len.ensures.len ∙ sym (length_ulpdu c.args.fpdu.now)) c.next_msn.ensures c.len-2.ensures.len in
     let is : judged_head at u ≡ Ok c.in-Ok.head = sym said ∙ sym c.judge.ensures.judged ∙ c.in-Ok.is in
     let p : HasPayload u c.in-Ok.head = has_payload u (length c.args.asked.now.unanswered) head (judges u c.args.asked.now.next (length c.args.asked.now.unanswered) head is) in
@@ -57,7 +57,7 @@ pub returns-in-Ok-clause-receiving : goal.returns-in-Ok-clause-receiving
 returns-in-Ok-clause-receiving g c =
     let u = ulpdu c.args.fpdu.now in
     let head = c.in-Ok.head in
-    let at : Standing = record { table = c.args.memory.now; domain = c.args.domain; receiving = c.args.receiving.now; reads = c.args.reads.now; asked = c.args.asked.now } in
+    let at : Standing = record { table = c.args.memory.now; peer = c.args.peer; receiving = c.args.receiving.now; reads = c.args.reads.now; asked = c.args.asked.now } in
     let said = judged_by u c.args.first.now c.len.result c.next_msn.result c.len-2.result at c.requires.first (c.len.ensures.len ∙ sym (length_ulpdu c.args.fpdu.now)) c.next_msn.ensures c.len-2.ensures.len in
     let is : judged_head at u ≡ Ok c.in-Ok.head = sym said ∙ sym c.judge.ensures.judged ∙ c.in-Ok.is in
     let p : HasPayload u c.in-Ok.head = has_payload u (length c.args.asked.now.unanswered) head (judges u c.args.asked.now.next (length c.args.asked.now.unanswered) head is) in

@@ -16,4 +16,4 @@ land_tagged_early-requires-clause-payload g c = payload_past (ulpdu c.args.fpdu.
 
 pub returns-clause-landed : goal.returns-clause-landed
 returns-clause-landed g c =
-    c.land_tagged_early.ensures.landed (record { table = c.args.memory.now; domain = c.args.domain; receiving = c.args.receiving.now; reads = c.args.reads.now; asked = c.args.asked.now }) refl refl refl
+    c.land_tagged_early.ensures.landed (record { table = c.args.memory.now; peer = c.args.peer; receiving = c.args.receiving.now; reads = c.args.reads.now; asked = c.args.asked.now }) refl refl refl

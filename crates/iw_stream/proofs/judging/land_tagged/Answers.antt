@@ -22,30 +22,30 @@ overflow_sub-len g c =
     omega (arith, tagged_long u c.args.head (passes u c.args.head c.requires.tagged), length_ulpdu c.args.fpdu.now, c.len.ensures.len)
 
 pub returns-in-Err-check_sink-clause-landed : goal.returns-in-Err-check_sink-clause-landed
-returns-in-Err-check_sink-clause-landed g c = λ at table domain reads.
+returns-in-Err-check_sink-clause-landed g c = λ at table peer reads.
     let u = ulpdu c.args.fpdu.now in
     let head = c.args.head in
     let response = c.args.response in
     let n : c.len.result - 14 ≡ length (ulpdu c.args.fpdu.now) - 14 = ap (λ k. k - 14) (c.len.ensures.len ∙ sym (length_ulpdu c.args.fpdu.now)) in
-    unasked response c.args.memory.now c.args.domain c.args.reads.now head (c.len.result - 14) c.in-Err-check_sink.fault c.in-Err-check_sink.ensures
-    ∙ (λ i. tagged_verdict response (sym table i) (sym domain i) (sym reads i) head (n i))
-    ∙ ap (λ b. tagged_verdict b at.table at.domain at.reads head (length u - 14)) c.requires.response
+    unasked response c.args.memory.now c.args.peer c.args.reads.now head (c.len.result - 14) c.in-Err-check_sink.fault c.in-Err-check_sink.ensures
+    ∙ (λ i. tagged_verdict response (sym table i) (sym peer i) (sym reads i) head (n i))
+    ∙ ap (λ b. tagged_verdict b at.table at.peer at.reads head (length u - 14)) c.requires.response
     ∙ sym (tagged_verdict_is at u head (passes u head c.requires.tagged))
     ∙ ap (λ m. option_map_or (λ w. Err (mismatch_fault w)) m (segment_verdict at u)) c.in_default.ensures
 
 pub returns-clause-landed : goal.returns-clause-landed
-returns-clause-landed g c = λ at table domain reads.
+returns-clause-landed g c = λ at table peer reads.
     let u = ulpdu c.args.fpdu.now in
     let head = c.args.head in
     let response = c.args.response in
     let n = ulpdu_len c.args.fpdu.now - 14 in
     let long = ap (λ k. k - 14) (length_ulpdu c.args.fpdu.now) in
     ap (as_tagged response) c.place_tagged.ensures.placed
-    ∙ ap (λ r. as_tagged response (fault_or (placing_fault c.args.memory.now c.args.domain head n r) (place_in head n))) c.right_of.ensures
-    ∙ as_placed response c.args.memory.now c.args.domain c.args.reads.now head n
+    ∙ ap (λ r. as_tagged response (fault_or (placing_fault c.args.memory.now c.args.peer head n r) (place_in head n))) c.right_of.ensures
+    ∙ as_placed response c.args.memory.now c.args.peer c.args.reads.now head n
     (c.in_default-check_sink.ensures ∙ ap (λ k. if response then sink_fault c.args.reads.now head (k - 14) else None) c.len.ensures.len)
-    ∙ (λ i. tagged_verdict response (sym table i) (sym domain i) (sym reads i) head (sym long i))
-    ∙ ap (λ b. tagged_verdict b at.table at.domain at.reads head (length u - 14)) c.requires.response
+    ∙ (λ i. tagged_verdict response (sym table i) (sym peer i) (sym reads i) head (sym long i))
+    ∙ ap (λ b. tagged_verdict b at.table at.peer at.reads head (length u - 14)) c.requires.response
     ∙ sym (tagged_verdict_is at u head (passes u head c.requires.tagged))
     ∙ ap (λ m. option_map_or (λ w. Err (mismatch_fault w)) m (segment_verdict at u)) c.in_default.ensures
 
@@ -54,5 +54,5 @@ returns-clause-memory g c =
     let u = ulpdu c.args.fpdu.now in
     let head = c.args.head in
     let n = ulpdu_len c.args.fpdu.now - 14 in
-    put_there c.place_tagged.result (placing_fault c.args.memory.now c.args.domain head n c.right_of.result) (place_in head n) c.args.memory.now c.place_tagged.new.memory (payload_of (read_segment u)) _
+    put_there c.place_tagged.result (placing_fault c.args.memory.now c.args.peer head n c.right_of.result) (place_in head n) c.args.memory.now c.place_tagged.new.memory (payload_of (read_segment u)) _
     c.place_tagged.ensures.placed (tagged_payload u head (passes u head c.requires.tagged)) c.place_tagged.ensures.ok

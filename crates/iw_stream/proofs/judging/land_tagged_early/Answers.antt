@@ -8,10 +8,10 @@ use Rattle.iw_stream.proofs.Tagged.{lands_early, leaves_receiving, table_placed}
 use Rattle.iw_stream.proofs.judging.land_tagged_early.Goals as goal
 
 pub returns-in-Ok-clause-landed : goal.returns-in-Ok-clause-landed
-returns-in-Ok-clause-landed g c = λ at table domain reads.
+returns-in-Ok-clause-landed g c = λ at table peer reads.
     let response = c.is_response-response.result in
     ap Some c.landing_of.ensures
-    ∙ lands_early at (frame_by c.args.fpdu.now) c.args.head (as_tagged response (Ok c.in-Ok.placed)) (passes (ulpdu c.args.fpdu.now) c.args.head c.requires.tagged) (c.in-Ok.ensures.landed at table domain reads)
+    ∙ lands_early at (frame_by c.args.fpdu.now) c.args.head (as_tagged response (Ok c.in-Ok.placed)) (passes (ulpdu c.args.fpdu.now) c.args.head c.requires.tagged) (c.in-Ok.ensures.landed at table peer reads)
 
 pub returns-in-Ok-clause-memory : goal.returns-in-Ok-clause-memory
 returns-in-Ok-clause-memory g c =

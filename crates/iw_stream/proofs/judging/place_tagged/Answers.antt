@@ -1,5 +1,5 @@
 use Rattle.std.proofs.Common.{◌≡◌, ◌-◌, ℕ, List, length, drop, None, sym, ap, ◌∙◌, arith, length-drop}
-use Rattle.iw_memory.specs.Table.{put, denial}
+use Rattle.iw_memory.specs.Table.{put, denial_for}
 use Rattle.iw_memory.proofs.Callers.{written-put}
 use Rattle.iw_tagged.proofs.Denials.{not_denied, length-part}
 use Rattle.iw_fpdu.specs.Found.{Found, ulpdu, ulpdu_len}
@@ -13,8 +13,8 @@ long f n payload is rest = omega (arith, is, length_ulpdu f, ap length rest, len
 pub copy_payload-requires : goal.copy_payload-requires
 copy_payload-requires g c =
     let n = c.len-n.result - 14 in
-    let none : denial c.args.memory.now c.args.domain c.args.head.stag c.args.head.to n c.args.right ≡ None = not_denied (denial c.args.memory.now c.args.domain c.args.head.stag c.args.head.to n c.args.right) (sym c.in_ok-check.ensures) in
-    length-part c.part_mut.result.now c.args.memory.now c.args.domain c.args.head.stag c.args.head.to n c.args.right c.part_mut.ensures.octets none
+    let none : denial_for c.args.memory.now c.args.peer c.args.head.stag c.args.head.to n c.args.right ≡ None = not_denied (denial_for c.args.memory.now c.args.peer c.args.head.stag c.args.head.to n c.args.right) (sym c.in_ok-check.ensures) in
+    length-part c.part_mut_for.result.now c.args.memory.now c.args.peer c.args.head.stag c.args.head.to n c.args.right c.part_mut_for.ensures.octets none
     ∙ long c.args.fpdu.now c.len-n.result c.args.payload c.len-n.ensures.len c.requires.payload
 
 pub returns-clause-ok : goal.returns-clause-ok

@@ -1,5 +1,5 @@
-use Rattle.std.proofs.Common.{◌≡◌, ◌-◌, List, [], sym, ◌∙◌, subst, arith}
-use Rattle.iw_ranges.specs.Arrived.{Arrived, emptied}
+use Rattle.std.proofs.Common.{◌-◌, List, [], sym, ◌∙◌, subst, arith}
+use Rattle.iw_ranges.specs.Arrived.{Arrived}
 use Rattle.iw_locate.specs.declared.unsearched.Unsearched.{Unsearched}
 use Rattle.iw_locate.specs.Free.{scene_of}
 use Rattle.iw_locate.specs.Keeping.{Keeps}

@@ -1,4 +1,4 @@
-use Rattle.std.proofs.Common.{◌≡◌, ◌+◌, ◌-◌, ◌%◌, ◌≤◌, true, Some, length, refl, ap, sym, ◌∙◌, subst, arith, length-append}
+use Rattle.std.proofs.Common.{◌≡◌, ◌+◌, ◌-◌, ◌%◌, true, length, ap, sym, ◌∙◌, subst, arith, length-append}
 use Rattle.iw_octets.specs.Segment.{segment_octets}
 use Rattle.iw_fpdu.specs.Frame.{frame_octets}
 use Rattle.iw_stream.specs.Emitting.{numbers_of}

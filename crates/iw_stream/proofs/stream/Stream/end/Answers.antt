@@ -1,4 +1,4 @@
-use Rattle.std.proofs.Common.{◌≡◌, List, None, sym, ap, ◌∙◌, subst}
+use Rattle.std.proofs.Common.{List, None, sym, ap, ◌∙◌, subst}
 use Rattle.iw_ranges.specs.Arrived.{Arrived, emptied}
 use Rattle.iw_stream.specs.Fields.{state_of}
 use Rattle.iw_stream.specs.Frames.{EarlyRecord}

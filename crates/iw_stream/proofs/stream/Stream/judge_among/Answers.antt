@@ -1,9 +1,8 @@
 use Rattle.std.proofs.Common.{◌≡◌, false, Some, ◌∙◌, ap, subst}
 use Rattle.iw_stream.specs.Fields.{state_of}
 use Rattle.iw_stream.specs.Frames.{Frame, frame_by}
-use Rattle.iw_stream.specs.Starting.{is_open}
 use Rattle.iw_stream.specs.Stream.{ends_by}
-use Rattle.iw_stream.specs.Work.{waiting, clashes, clash_fault, step_of, left_by, next_frame, table_left}
+use Rattle.iw_stream.specs.Work.{waiting, clashes, step_of, left_by, next_frame, table_left}
 use Rattle.iw_stream.proofs.Early.{IsSeen, front_kept, kept_there, none_clashes, seen, task_clashes, task_judges}
 use Rattle.iw_stream.proofs.Waiting.{kept_scene}
 use Rattle.iw_stream.proofs.stream.Stream.judge_among.Given as given

@@ -30,7 +30,7 @@ invariant_of-self-in-Ok-Write g c = record {
       let next : IsNext (expecting c.self.inside.start) c.self.inside.arrived.arrived (first_place_in c.self.inside.start) c.in-Some.fpdu =
       subst (λ l. IsNext l c.self.inside.arrived.arrived (first_place_in c.self.inside.start) c.in-Some.fpdu) c.expecting-layout.ensures
       (subst (λ b. IsNext c.expecting-layout.result c.self.inside.arrived.arrived b c.in-Some.fpdu) c.first_place_in-base.ensures.place c.in-Some.ensures.next) in
-      subst (λ f. Keeps (record s { front = f; receiving = c.land_frame.new.receiving })) (sym c.keep_frame.ensures)
+      subst (λ f. Keeps (record s { front = f; receiving = c.land_frame.new.receiving })) (sym c.keep_placed.ensures.kept)
       (keeps_judged s c.args.memory.now c.in-Some.fpdu c.land_frame.new.receiving c.in-Ok-Write.field-0 running next (sym c.land_frame.ensures.landed ∙ c.in-Ok-Write.is) (subst IsPlacing (sym c.in-Ok-Write.field-0-is) tt) c.in-Ok-Write.ensures.receiving over c.self.invariant.keeps);
   layout = c.self.invariant.layout;
   base = c.self.invariant.base;
@@ -51,7 +51,7 @@ invariant_of-self-in-Ok-Response g c = record {
       let next : IsNext (expecting c.self.inside.start) c.self.inside.arrived.arrived (first_place_in c.self.inside.start) c.in-Some.fpdu =
       subst (λ l. IsNext l c.self.inside.arrived.arrived (first_place_in c.self.inside.start) c.in-Some.fpdu) c.expecting-layout.ensures
       (subst (λ b. IsNext c.expecting-layout.result c.self.inside.arrived.arrived b c.in-Some.fpdu) c.first_place_in-base.ensures.place c.in-Some.ensures.next) in
-      subst (λ f. Keeps (record s { front = f; receiving = c.land_frame.new.receiving })) (sym c.keep_frame-in-Ok-Response.ensures)
+      subst (λ f. Keeps (record s { front = f; receiving = c.land_frame.new.receiving })) (sym c.keep_placed-in-Ok-Response.ensures.kept)
       (keeps_judged s c.args.memory.now c.in-Some.fpdu c.land_frame.new.receiving c.in-Ok-Response.field-0 running next (sym c.land_frame.ensures.landed ∙ c.in-Ok-Response.is) (subst IsPlacing (sym c.in-Ok-Response.field-0-is) tt) c.in-Ok-Response.ensures.receiving over c.self.invariant.keeps);
   layout = c.self.invariant.layout;
   base = c.self.invariant.base;
@@ -72,7 +72,7 @@ invariant_of-self-in-Ok-Send g c = record {
       let next : IsNext (expecting c.self.inside.start) c.self.inside.arrived.arrived (first_place_in c.self.inside.start) c.in-Some.fpdu =
       subst (λ l. IsNext l c.self.inside.arrived.arrived (first_place_in c.self.inside.start) c.in-Some.fpdu) c.expecting-layout.ensures
       (subst (λ b. IsNext c.expecting-layout.result c.self.inside.arrived.arrived b c.in-Some.fpdu) c.first_place_in-base.ensures.place c.in-Some.ensures.next) in
-      subst (λ f. Keeps (record s { front = f; receiving = c.land_frame.new.receiving })) (sym c.keep_frame-in-Ok-Send.ensures)
+      subst (λ f. Keeps (record s { front = f; receiving = c.land_frame.new.receiving })) (sym c.keep_frame.ensures)
       (keeps_judged s c.args.memory.now c.in-Some.fpdu c.land_frame.new.receiving c.in-Ok-Send.field-0 running next (sym c.land_frame.ensures.landed ∙ c.in-Ok-Send.is) (subst IsPlacing (sym c.in-Ok-Send.field-0-is) tt) c.in-Ok-Send.ensures.receiving over c.self.invariant.keeps);
   layout = c.self.invariant.layout;
   base = c.self.invariant.base;
@@ -146,7 +146,7 @@ returns-in-Err-clause-after g c =
     c.start_of-start.ensures ∙ (λ i. frame_start (layout i).markers (c.floor.ensures i - base i)) in
     let next : next_frame s ≡ Some (frame_by found) =
     (λ i. frame_at (sym layout i) s.arrived (sym base i) (sym start i)) ∙ sym c.held_at.ensures.frame ∙ ap (option_map frame_by) c.in-Some.is in
-    c.end_by.ensures ∙ (λ i. ends_by (record s { receiving = c.in-Err.ensures.err.1 i }) (c.terminate_judged-terminate.ensures i))
+    c.end_at.ensures.after ∙ (λ i. ends_by (record s { receiving = c.in-Err.ensures.err.1 i }) (c.terminate_judged-terminate.ensures i))
     ∙ judged_over table s (frame_by found) c.in-Err.fault next (sym c.land_frame.ensures.landed ∙ c.in-Err.is)
     ∙ ap (λ (t : StreamState). left_by table t (option_map_or Judge (next_frame t) Rest)) c.self.view_is
 

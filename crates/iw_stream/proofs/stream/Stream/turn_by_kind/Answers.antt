@@ -3,7 +3,7 @@ use Rattle.iw_stream.specs.Fields.{state_of}
 use Rattle.iw_fpdu.specs.declared.layout.Layout.{Layout}
 use Rattle.iw_fpdu.specs.Frame.{frame_end}
 use Rattle.iw_stream.specs.Starting.{is_open, first_place_in}
-use Rattle.iw_stream.specs.Stream.{StreamState, ended}
+use Rattle.iw_stream.specs.Stream.{StreamState, ended, peer_of}
 use Rattle.iw_stream.specs.Work.{place_past}
 use Rattle.iw_stream.specs.Kept.{AreAwaited}
 use Rattle.iw_queues.specs.Completions as completions
@@ -75,7 +75,7 @@ returns-in-Completed-clause-reach g c =
 pub finish-requires : goal.finish-requires
 finish-requires g c =
     let runs : ended (state_of c.self.inside) ≡ false = ap ended c.self.view_is ∙ c.requires.runs in
-    awaits_answered c.self.inside.queue.sent c.args.memory.now c.self.inside.domain c.self.inside.receiving c.self.inside.reads (payload_len c.args.frame) (head_in c.args.frame) c.in-Answered.ticket (c.self.invariant.keeps.awaited runs)
+    awaits_answered c.self.inside.queue.sent c.args.memory.now (peer_of (state_of c.self.inside)) c.self.inside.receiving c.self.inside.reads (payload_len c.args.frame) (head_in c.args.frame) c.in-Answered.ticket (c.self.invariant.keeps.awaited runs)
     (sym c.turn_frame.ensures.turn ∙ c.in-Ok.is ∙ ap Ok c.in-Answered.is)
 
 pub invariant_of-self-in-Answered : goal.invariant_of-self-in-Answered
@@ -92,7 +92,7 @@ invariant_of-self-in-Answered g c = record {
       (subst (λ (q : Queue). q.sent.first < 2 ^ 64) (sym c.finish.ensures) c.self.invariant.keeps.first)
       (subst (λ (q : Queue). AreAwaited q.sent c.turn_frame.new.reads) (sym c.finish.ensures)
       (subst (AreAwaited (completions.finished c.self.inside.queue.sent c.in-Answered.ticket)) (sym c.in-Ok.ensures.reads)
-      (awaited_answered c.self.inside.queue.sent c.args.memory.now c.self.inside.domain c.self.inside.receiving c.self.inside.reads (payload_len c.args.frame) (head_in c.args.frame) c.in-Answered.ticket c.self.invariant.keeps.first (c.self.invariant.keeps.awaited runs)
+      (awaited_answered c.self.inside.queue.sent c.args.memory.now (peer_of (state_of c.self.inside)) c.self.inside.receiving c.self.inside.reads (payload_len c.args.frame) (head_in c.args.frame) c.in-Answered.ticket c.self.invariant.keeps.first (c.self.invariant.keeps.awaited runs)
       (sym c.turn_frame.ensures.turn ∙ c.in-Ok.is ∙ ap Ok c.in-Answered.is))))
       (λ e. c.in-Ok.ensures.reads ∙ none_left c.self.inside.reads (payload_len c.args.frame) (head_in c.args.frame) e) c.self.invariant.keeps;
   layout = c.advance.ensures.same.layout ∙ c.self.invariant.layout;

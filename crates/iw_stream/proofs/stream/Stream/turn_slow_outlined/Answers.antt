@@ -8,7 +8,7 @@ use Rattle.iw_stream.specs.Fields.{state_of}
 use Rattle.iw_stream.specs.Judging.{answered}
 use Rattle.iw_stream.specs.Kept.{NoneReachesOver, AreAwaited}
 use Rattle.iw_stream.specs.Starting.{is_open, first_place_in}
-use Rattle.iw_stream.specs.Stream.{StreamState, ended}
+use Rattle.iw_stream.specs.Stream.{StreamState, ended, peer_of}
 use Rattle.iw_stream.specs.Work.{place_past}
 use Rattle.iw_stream.proofs.Keeping.{keeps_past, placed_front, reaches, turn_stays}
 use Rattle.iw_stream.proofs.Buffers.{stays_same}
@@ -51,7 +51,7 @@ invariant_of-self-in-Ok-Some g c = record {
       (subst (λ (q : Queue). q.sent.first < 2 ^ 64) (sym c.finish.ensures) c.self.invariant.keeps.first)
       (subst (λ (q : Queue). AreAwaited q.sent c.turn_reads.new.reads) (sym c.finish.ensures)
       (subst (AreAwaited (completions.finished s.queue.sent c.in-Ok-Some.ticket)) (sym c.in-Ok-Some.ensures.ok)
-      (awaited_answered s.queue.sent c.args.memory.now s.domain s.receiving s.reads c.payload_len.result (Some (Tagged head [])) c.in-Ok-Some.ticket c.self.invariant.keeps.first (c.self.invariant.keeps.awaited runs)
+      (awaited_answered s.queue.sent c.args.memory.now (peer_of s) s.receiving s.reads c.payload_len.result (Some (Tagged head [])) c.in-Ok-Some.ticket c.self.invariant.keeps.first (c.self.invariant.keeps.awaited runs)
       (sym c.turn_reads.ensures.turn ∙ ap answered (c.in-Ok-Some.is ∙ ap Ok c.in-Ok-Some.field-0-is)))))
       (λ e. c.in-Ok-Some.ensures.ok ∙ none_left s.reads c.payload_len.result (Some (Tagged head [])) e) c.self.invariant.keeps;
   layout = c.advance-in-Ok-Some.ensures.same.layout ∙ c.self.invariant.layout;
