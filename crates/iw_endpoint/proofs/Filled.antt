@@ -3,7 +3,7 @@ use Rattle.std.proofs.Common.{◌≡◌, ◌≢◌, ◌⊎◌, ℕ, zero, suc, �
 use Rattle.std.specs.Prelude.{IfSome}
 use Rattle.std.proofs.lemmas.Bool.{cases_lt}
 use Rattle.std.proofs.lemmas.Option.{none-some}
-use Rattle.std.proofs.lemmas.List.{get_or_past, get_or-set_same, get_or-set_other, length-append, length-replicate, length-set}
+use Rattle.std.proofs.lemmas.List.{get_or_past, get_or-set_same, get_or-set_other, append_assoc, length-append, length-replicate, length-set, set-append_left}
 use Rattle.iw_endpoint.specs.Numbers.{filled, put_at, in_front, trimmed}
 
 -- o stands at this number, all else is as it was, and no place is gone
@@ -17,7 +17,7 @@ module _ {X : Type 0} where
   nil zero = refl
   nil (suc m) = refl
 
-  nothing_in : (k n : ℕ) → get_or (replicate {A = Option X} k None) n None ≡ None
+  pub nothing_in : (k n : ℕ) → get_or (replicate {A = Option X} k None) n None ≡ None
   nothing_in zero zero = refl
   nothing_in zero (suc n) = refl
   nothing_in (suc k) zero = refl
@@ -35,6 +35,20 @@ module _ {X : Type 0} where
   length_filled n xs =
       let size : length (filled n xs) ≡ length xs + (n - length xs) = length-append xs (replicate (n - length xs) None) ∙ ap (λ m. length xs + m) (length-replicate {A = Option X} (n - length xs) None) in
       omega arith
+
+  pub set_filled : (n : ℕ) (xs : List (Option X)) (k : ℕ) (o : Option X) → k < length xs → filled n (set xs k o) ≡ set (filled n xs) k o
+  set_filled n xs k o below =
+      ap (λ m. set xs k o ++ replicate (n - m) None) (length-set xs k o)
+      ∙ sym (set-append_left xs (replicate (n - length xs) None) k o below)
+
+  -- a place with nothing is there already
+  pub push_filled : (n : ℕ) (xs : List (Option X)) → length xs < n → filled n (xs ++ None ∷ []) ≡ filled n xs
+  push_filled n xs room =
+      append_assoc xs (None ∷ []) (replicate (n - length (xs ++ None ∷ [])) None)
+      ∙ ap (λ m. xs ++ replicate m None) one_less
+    where
+      one_less : suc (n - length (xs ++ None ∷ [])) ≡ n - length xs
+      one_less = let size : length (xs ++ None ∷ []) ≡ length xs + 1 = length-append xs (None ∷ []) in omega arith
 
   put_here : (xs : List (Option X)) (n : ℕ) (x : X) → get_or (put_at xs n x) n None ≡ Some x
   put_here [] zero x = refl
@@ -71,6 +85,12 @@ module _ {X : Type 0} where
   pub put_last : (xs : List (Option X)) (x : X) → put_at xs (length xs) x ≡ xs ++ Some x ∷ []
   put_last [] x = refl
   put_last (y ∷ ys) x = ap (λ zs. y ∷ zs) (put_last ys x)
+
+  -- at a place that is there
+  pub put_within : (xs : List (Option X)) (n : ℕ) (x : X) → n < length xs → put_at xs n x ≡ set xs n (Some x)
+  put_within [] n x below = absurd (let no : ⊥ = omega arith in no)
+  put_within (y ∷ ys) zero x below = refl
+  put_within (y ∷ ys) (suc n) x below = ap (λ zs. y ∷ zs) (put_within ys n x (omega arith))
 
   -- what stands in a list is within it
   pub within : (xs : List (Option X)) (n : ℕ) (x : X) → get_or xs n None ≡ Some x → n < length xs

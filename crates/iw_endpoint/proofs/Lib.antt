@@ -1,9 +1,11 @@
 pub mod Lists
 pub mod Numbers
 pub mod Filled
+pub mod Opened
 pub mod Tables
 pub mod Parts
 pub mod Steps
 pub mod Alone
 pub mod TakenIn
 pub mod Used
+pub mod Limited

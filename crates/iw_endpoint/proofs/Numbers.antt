@@ -1,6 +1,6 @@
 -- Streams by number, each in a place of its own.
-use Rattle.std.proofs.Common.{◌≡◌, ◌≢◌, ℕ, zero, suc, ◌+◌, ◌<◌, ◌≤◌, ◌^◌, ◌⊎◌, List, [], ◌∷◌, ◌++◌, length, map, set, get_or, replicate, Option, Some, None, refl, sym, ap, subst, ◌∙◌, inl, inr, arith, Result, Ok, Err}
-use Rattle.std.specs.Prelude.{IsSome, OnOk, OnErr, is_some, nat_lt, if◌then◌else◌}
+use Rattle.std.proofs.Common.{◌≡◌, ◌≢◌, ℕ, zero, suc, ◌+◌, ◌<◌, ◌≤◌, ◌^◌, ◌⊎◌, List, [], ◌∷◌, ◌++◌, length, map, set, get_or, replicate, Option, Some, None, refl, sym, ap, subst, ◌∙◌, inl, inr, arith}
+use Rattle.std.specs.Prelude.{IsSome, max, is_some, nat_lt, if◌then◌else◌}
 use Rattle.slab.specs.Slab as slab
 use Rattle.slab.specs.Slab.{Slab}
 use Rattle.std.specs.List.{range_with_len}
@@ -11,7 +11,7 @@ use Rattle.std.proofs.lemmas.List.{get_or_past, get_or-set_same, get_or-set_othe
 use Rattle.std.proofs.lemmas.List.FromFn.{length-map-range_with_len, get_or-map-range_with_len, map-range_with_len_more, fill_by_all}
 use Rattle.iw_endpoint.specs.Inside.{found, listed, Keeps, Changes, Stays, IsLaid}
 use Rattle.iw_endpoint.specs.Numbers.{put_at}
-use Rattle.iw_endpoint.proofs.Filled.{put_last}
+use Rattle.iw_endpoint.proofs.Filled.{put_last, put_within}
 
 module _ {X : Type 0} where
   abbrev numbers : (ℕ → Option X) → ℕ → List (Option X)
@@ -218,33 +218,34 @@ module _ {X : Type 0} where
   there_at keys places next n k xs keeps is at =
       sym (ap (λ ys. get_or ys n None) (sym is) ∙ at_listed keys places next keeps n ∙ found_at keys places n k at)
 
-  module _ {R E : Type 0} (keys new_keys : ℕ → Option ℕ) (places new_places : ℕ → Option X) (next n : ℕ) (x : X) (xs : List (Option X)) (keeps : Keeps keys places next) (is : listed keys places next ≡ xs) where
-    pub keeps_laid : (r : Result R E) → n < next → OnOk r (IsLaid keys new_keys places new_places n x) → OnErr r (Stays keys new_keys × Stays places new_places) → Keeps new_keys new_places next
-    keeps_laid (Ok u) within laid stays = keeps_put keys new_keys places new_places next n laid.place x keeps laid.kept laid.put laid.vacant next within (omega arith) keeps.most
-    keeps_laid (Err e) within laid stays = keeps_stays keys new_keys places new_places next stays.0 stays.1 keeps
+  -- one more was put under a number, or under the next
+  module _ (keys new_keys : ℕ → Option ℕ) (places new_places : ℕ → Option X) (next n later : ℕ) (x : X) (xs : List (Option X)) (keeps : Keeps keys places next) (is : listed keys places next ≡ xs)
+      (within : n ≤ length xs) (more : later ≡ max next (n + 1)) (laid : IsLaid keys new_keys places new_places n x) where
+    size_is : length xs ≡ next
+    size_is = size_listed keys places next xs is
 
-    pub laid_within : (r : Result R E) → n < next → OnOk r (IsLaid keys new_keys places new_places n x) → OnOk r (listed new_keys new_places next ≡ set xs n (Some x))
-    laid_within (Ok u) within laid = listed_put keys new_keys places new_places next n laid.place x keeps laid.kept laid.put laid.vacant within ∙ ap (λ ys. set ys n (Some x)) is
-    laid_within (Err e) within laid = laid
+    pub keeps_laid : n < 2 ^ 32 → Keeps new_keys new_places later
+    keeps_laid below =
+        let most = keeps.most in
+        keeps_put keys new_keys places new_places next n laid.place x keeps laid.kept laid.put laid.vacant later (omega (arith, more)) (omega (arith, more)) (omega (arith, more, most, below))
 
-    pub laid_nothing : (r : Result R E) → OnErr r (Stays keys new_keys × Stays places new_places) → OnErr r (listed new_keys new_places next ≡ xs)
-    laid_nothing (Ok u) stays = stays
-    laid_nothing (Err e) stays = listed_stays keys new_keys places new_places next stays.0 stays.1 ∙ is
-
-  module _ (keys new_keys : ℕ → Option ℕ) (places new_places : ℕ → Option X) (next n : ℕ) (x : X) (xs : List (Option X)) (keeps : Keeps keys places next) (is : listed keys places next ≡ xs) where
-    pub keeps_pushed : n ≡ length xs → n < 2 ^ 32 → IsLaid keys new_keys places new_places n x → Keeps new_keys new_places (n + 1)
-    keeps_pushed at below laid =
-        let same : n ≡ next = at ∙ size_listed keys places next xs is in
-        keeps_put keys new_keys places new_places next n laid.place x keeps laid.kept laid.put laid.vacant (n + 1) (omega arith) (omega arith) (omega arith)
-
-    pub laid_last : n ≡ length xs → IsLaid keys new_keys places new_places n x → listed new_keys new_places (n + 1) ≡ put_at xs n x
-    laid_last at laid =
-        let same : n ≡ next = at ∙ size_listed keys places next xs is in
-        ap (λ m. listed new_keys new_places (m + 1)) same
-        ∙ listed_push keys new_keys places new_places next n laid.place x keeps laid.kept laid.put laid.vacant same
-        ∙ ap (λ ys. ys ++ Some x ∷ []) is
-        ∙ sym (put_last xs x)
-        ∙ ap (λ m. put_at xs m x) (sym at)
+    pub listed_laid : listed new_keys new_places later ≡ put_at xs n x
+    listed_laid = elim (cases_lt n next) [
+      | inl below ↦
+          (let same : later ≡ next = omega (arith, more) in
+          ap (listed new_keys new_places) same
+          ∙ listed_put keys new_keys places new_places next n laid.place x keeps laid.kept laid.put laid.vacant below
+          ∙ ap (λ ys. set ys n (Some x)) is
+          ∙ sym (put_within xs n x (omega (arith, below, size_is))))
+      | inr past ↦
+          (let last : n ≡ length xs = omega (arith, within, past, size_is) in
+          let same : later ≡ next + 1 = omega (arith, more, within, past, size_is) in
+          ap (listed new_keys new_places) same
+          ∙ listed_push keys new_keys places new_places next n laid.place x keeps laid.kept laid.put laid.vacant (last ∙ size_is)
+          ∙ ap (λ ys. ys ++ Some x ∷ []) is
+          ∙ sym (put_last xs x)
+          ∙ ap (λ m. put_at xs m x) (sym last))
+    ]
 
   -- ---- a new one, and one that lends
 

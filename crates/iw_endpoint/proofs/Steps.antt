@@ -6,28 +6,33 @@ use Rattle.std.specs.Prelude.{IfSome, ◌||◌, is_none, unwrap_or, is_some, nat
 use Rattle.std.specs.Option.{option_map, option_or}
 use Rattle.std.proofs.lemmas.List.{length-set}
 use Rattle.iw_memory.specs.declared.refusal.NoRegion.{NoRegion}
+use Rattle.iw_memory.specs.declared.refusal.RegisterRefusal.{RegisterRefusal}
 use Rattle.iw_memory.specs.Part as regions
-use Rattle.iw_memory.specs.Region.{facts_of, new_region, overlay}
+use Rattle.iw_memory.specs.Region.{facts_of, new_region, bound_region, overlay}
 use Rattle.iw_memory.specs.Table as tables
-use Rattle.iw_memory.specs.Table.{Table, is_added}
+use Rattle.iw_memory.specs.Table.{Table, is_added, register_refusal, next_stag, retired}
 use Rattle.iw_stream.specs.declared.answer.OpenRefusal.{OpenRefusal}
 use Rattle.iw_stream.specs.declared.answer.OpenRefusal.TheVariants.{NumberTaken, BadNumber, NoDomain}
 use Rattle.iw_ranges.specs.declared.Delivery.{Delivery}
 use Rattle.iw_ranges.specs.declared.Delivery.TheVariants.{Kept, Dropped}
 use Rattle.iw_startup.specs.declared.config.Config.{Config}
 use Rattle.iw_stream.specs.declared.answer.Role.{Role}
-use Rattle.iw_stream.specs.Starting.{exceeds_request, private_in, told_in, agreement_in}
+use Rattle.iw_stream.specs.Starting.{exceeds_request, private_in, told_in, options_in, agreement_in}
 use Rattle.iw_stream.specs.Stream as stream
 use Rattle.iw_untagged.specs.Receiving.{exchanged}
-use Rattle.iw_stream.specs.Stream.{StreamState, sees, emission_of, emitted, delivery_of}
+use Rattle.iw_stream.specs.Stream.{StreamState, peer_of, ended, sees, standing_of, due, is_none_due, emission_of, emitted, delivery_of}
 use Rattle.iw_stream.specs.Work.{work_step, table_worked}
+use Rattle.iw_endpoint.specs.declared.refusal.CallRefusal.{CallRefusal}
+use Rattle.iw_endpoint.specs.declared.refusal.CallRefusal.TheVariants.{Refused}
+use Rattle.iw_endpoint.specs.declared.refusal.LimitRefusal.{LimitRefusal}
+use Rattle.iw_endpoint.specs.declared.refusal.LimitRefusal.TheVariants as limits
 use Rattle.iw_endpoint.specs.declared.refusal.OpenNextRefusal.TheVariants as next_refusals
 use Rattle.iw_endpoint.specs.Numbers.{put_at}
-use Rattle.iw_endpoint.specs.Endpoint.{EndpointState, Pool, HasNumbers, closed_at, is_taken, rest_refusal, with_next, next_refusal, next_shared_refusal, pool_of, with_pool, share_fault, share_refusal, pool_fault, pool_refusal, take_fault, take_refusal, taken, lent_to, left_of, pool_left, with_worked, stream_of, unopened, with_stream, with_table, answer_at, refusal_at, number_refusal, request_refusal, open_refusal, open_shared_refusal, open_shared_refusal_of, unshared, stream_numbers}
-use Rattle.iw_endpoint.specs.Isolation.{StreamCall, Accept, Reject, Post, PostRecv, Deliver, Work, Emit, BreakLink, Close, OpenNext, OpenSharedNext, SetMulpdu, Private, Told, Sent, DueLen, InOrderPoint, Limits, AddDomain, Register, Deregister, Invalidate, Store, Facts, Local, LocalMut, Open, Share, PostShared, TakeShared, OpenShared, AtStream, FirstNumber, PeerFirst}
-use Rattle.iw_endpoint.specs.Isolation.{Accepted, Rejected, Posted, Buffered, Delivered, Worked, Emitted, Broke, Closed, Sized, Shown, Declared, Counted, Limited, Added, Registered, Octets, Invalidated, Found, Stored, Opened, Shared, Pooled, Taken, OpenedShared, OpenedNext, OfStream, Numbered}
+use Rattle.iw_endpoint.specs.Endpoint.{EndpointState, Pool, new_stream, new_shared, HasNumbers, closed_at, is_taken, rest_refusal, with_next, next_refusal, next_shared_refusal, pool_of, with_pool, share_fault, share_refusal, pool_fault, pool_refusal, take_fault, take_refusal, taken, lent_to, left_of, pool_left, with_worked, stream_of, unopened, with_stream, with_table, answer_at, refusal_at, number_refusal, request_refusal, open_refusal, open_shared_refusal, open_shared_refusal_of, unshared, stream_numbers}
+use Rattle.iw_endpoint.specs.Isolation.{StreamCall, Accept, Reject, Post, PostRecv, Deliver, Work, Emit, BreakLink, Close, OpenNext, OpenSharedNext, SetMulpdu, Private, Told, PeerOptions, Standing, HasDue, Sent, DueLen, InOrderPoint, Limits, RegisterFor, AddDomain, Register, Deregister, Invalidate, Store, Facts, Local, LocalMut, Open, Share, PostShared, TakeShared, OpenShared, AtStream, FirstNumber, PeerFirst}
+use Rattle.iw_endpoint.specs.Isolation.{StreamAnswer, Bound, Accepted, Rejected, Posted, Buffered, Delivered, Worked, Emitted, Broke, Closed, Sized, Shown, Declared, Wanted, Stood, Due, Counted, Limited, Added, Registered, Octets, Invalidated, Found, Stored, Opened, Shared, Pooled, Taken, OpenedShared, OpenedNext, OfStream, Numbered}
 use Rattle.iw_endpoint.specs.Isolation.{HasDomains, IsOwn, IsOwnNumber, OwnStep, CallsConcernOneDomain, part_of, alone, stream_answer, after_stream, answer_or, unless}
-use Rattle.iw_endpoint.proofs.Tables.{AreAlike, KeepsOthers, step-alike, worked-alike, table_worked-alike, keeps-worked, emission-alike, emitted-alike, after_emit-alike, worked_domain, emit_domain}
+use Rattle.iw_endpoint.proofs.Tables.{AreAlike, KeepsOthers, step-alike, worked-alike, alike-own, table_worked-alike, keeps-step, keeps-others, emission-alike, emitted-alike, after_emit-alike, worked_domain, emit_domain}
 use Rattle.iw_endpoint.proofs.Filled.{set_is, put_is, within}
 use Rattle.iw_endpoint.proofs.Parts.{AreSeenAlike, seen_alone, stream_alike, alone_own, with_alike, with_tables_alike, with_pool_alike, pool_alike, pool_other, pool_leaves, unless_alike, refusing_alike, changing_alike, region_alike, Leaves, leaves-all, leaves-put, leaves-closed, leaves-changed, changed_alike, put_alike, closes_alike, closed_alike, alone_number, with_streams, refusing_leaves, changing_leaves, region_leaves, one_step}
 
@@ -95,9 +100,24 @@ stream_answers d e f n Emit own same h =
     ∙ ap (λ o. Emitted (answer_at o (λ s. emission_of f.table (unwrap_or o unopened))) (answer_at o (λ s. emitted f.table (unwrap_or o unopened)))) same
 stream_answers d e f n BreakLink own same h = ap (λ o. Broke (answer_at o (λ s. tt))) same
 stream_answers d e f n Close own same h = ap (λ o. Closed (refusal_at o rest_refusal)) same
+stream_answers d e f n (RegisterFor base octets rights) own same h = go (stream_of e n) own ∙ ap (bound f) same
+  where
+    bound : EndpointState → Option StreamState → StreamAnswer
+    bound x o =
+        Bound (answer_or (option_or (refusal_at o (λ s. if ended s then Some limits.Ended else None)) (option_map (λ refusal. Refused (limits.Refused refusal)) (register_refusal x.table (unwrap_or o unopened).domain base (length octets))))
+        (next_stag x.table (unwrap_or o unopened).domain))
+
+    go : (o : Option StreamState) → IsOwn d o → bound e o ≡ bound f o
+    go None own = refl
+    go (Some s) own = ap (λ part.
+        Bound (answer_or (option_or (refusal_at (Some s) (λ s. if ended s then Some limits.Ended else None)) (option_map (λ refusal. Refused (limits.Refused refusal)) (regions.own_register_refusal part base (length octets))))
+        (regions.own_next_stag part s.domain))) (at_own d e f s own h).part
 stream_answers d e f n (SetMulpdu size) own same h = ap (λ o. Sized (refusal_at o (λ s. stream.size_refusal size))) same
 stream_answers d e f n Private own same h = ap (λ o. Shown (answer_at o (λ s. private_in (unwrap_or o unopened).start))) same
 stream_answers d e f n Told own same h = ap (λ o. Declared (answer_at o (λ s. told_in (unwrap_or o unopened).start))) same
+stream_answers d e f n PeerOptions own same h = ap (λ o. Wanted (answer_at o (λ s. options_in (unwrap_or o unopened).start))) same
+stream_answers d e f n Standing own same h = ap (λ o. Stood (answer_at o (λ s. standing_of (unwrap_or o unopened)))) same
+stream_answers d e f n HasDue own same h = ap (λ o. Due (answer_at o (λ s. not (is_none_due (due (unwrap_or o unopened)))))) same
 stream_answers d e f n PeerFirst own same h = ap (λ o. Counted (answer_at o (λ s. (unwrap_or o unopened).first))) same
 stream_answers d e f n Sent own same h = ap (λ o. Counted (answer_at o (λ s. (unwrap_or o unopened).sent))) same
 stream_answers d e f n DueLen own same h =
@@ -108,7 +128,7 @@ stream_answers d e f n Limits own same h = ap (λ o. Limited (answer_at o (λ s.
 
 -- what each call makes of its stream, and of the endpoint
 abbrev pub closes : EndpointState → ℕ → StreamState → EndpointState
-closes e n s = record e { streams = set e.streams n None; closed = set e.closed n (Some s.domain) }
+closes e n s = record e { table = retired e.table (peer_of s); streams = set e.streams n None; closed = set e.closed n (Some s.domain) }
 
 abbrev pub delivered : ℕ → List ℕ → StreamState → StreamState
 delivered from octets s = stream.after_deliver s from octets (delivery_of s from (length octets))
@@ -133,12 +153,37 @@ stream_alikes d e f n Emit own same h = changing_alike (λ s e. with_stream e n 
     changed_alike d e f n s (stream.after_emit e.table s) (stream.after_emit f.table s) at_e at_f (after_emit-alike s e.table f.table (at_own d e f s (subst (λ o. IsOwn d o) at_e own) h)) h)
 stream_alikes d e f n BreakLink own same h = changing_alike (λ s e. with_stream e n (stream.breaks s)) d e f n same h (λ s at_e at_f. changed_alike d e f n s (stream.breaks s) (stream.breaks s) at_e at_f refl h)
 stream_alikes d e f n Close own same h = refusing_alike rest_refusal (λ s e. closes e n s) d e f n same h (λ s at_e at_f.
-    closes_alike d (with_streams e (set e.streams n None)) (with_streams f (set f.streams n None)) n s.domain
-    (put_alike d e f (set e.streams n None) (set f.streams n None) n None None (set_is e.streams n None (within e.streams n s at_e)) (set_is f.streams n None (within f.streams n s at_f)) refl h))
+    with_tables_alike d (record e { streams = set e.streams n None; closed = set e.closed n (Some s.domain) }) (record f { streams = set f.streams n None; closed = set f.closed n (Some s.domain) }) (retired e.table (peer_of s)) (retired f.table (peer_of s))
+    (alike-own d s.domain e.table f.table (λ part. regions.own_retired part s.number) h.table)
+    (closes_alike d (with_streams e (set e.streams n None)) (with_streams f (set f.streams n None)) n s.domain
+    (put_alike d e f (set e.streams n None) (set f.streams n None) n None None (set_is e.streams n None (within e.streams n s at_e)) (set_is f.streams n None (within f.streams n s at_f)) refl h)))
+stream_alikes d e f n (RegisterFor base octets rights) own same h =
+    subst (λ o. AreSeenAlike d (made e (stream_of e n)) (made f o)) same (go (stream_of e n) own)
+  where
+    told : RegisterRefusal → CallRefusal LimitRefusal
+    told refusal = Refused (limits.Refused refusal)
+
+    made : EndpointState → Option StreamState → EndpointState
+    made x o =
+        unless (option_or (refusal_at o (λ s. if ended s then Some limits.Ended else None)) (option_map told (register_refusal x.table (unwrap_or o unopened).domain base (length octets)))) x
+        (with_table x (tables.registered x.table (unwrap_or o unopened).domain (bound_region n base octets rights)))
+
+    at_domain : (d : ℕ) → AreSeenAlike d e f → (b : Bool)
+        → AreSeenAlike d (unless (option_or (option_map Refused (if b then Some limits.Ended else None)) (option_map told (register_refusal e.table d base (length octets)))) e (with_table e (tables.registered e.table d (bound_region n base octets rights))))
+        (unless (option_or (option_map Refused (if b then Some limits.Ended else None)) (option_map told (register_refusal f.table d base (length octets)))) f (with_table f (tables.registered f.table d (bound_region n base octets rights))))
+    at_domain d h true = h
+    at_domain d h false = region_alike (λ part. option_map told (regions.own_register_refusal part base (length octets))) (λ part. regions.own_registered part (bound_region n base octets rights)) d e f h
+
+    go : (o : Option StreamState) → IsOwn d o → AreSeenAlike d (made e o) (made f o)
+    go None own = h
+    go (Some s) own = subst (λ x. AreSeenAlike x (made e (Some s)) (made f (Some s))) own (at_domain s.domain (seen_own d e f s own h) (ended s))
 stream_alikes d e f n (SetMulpdu size) own same h =
     refusing_alike (λ s. stream.size_refusal size) (λ s e. with_stream e n (stream.with_mulpdu s size)) d e f n same h (λ s at_e at_f. changed_alike d e f n s (stream.with_mulpdu s size) (stream.with_mulpdu s size) at_e at_f refl h)
 stream_alikes d e f n Private own same h = h
 stream_alikes d e f n Told own same h = h
+stream_alikes d e f n PeerOptions own same h = h
+stream_alikes d e f n Standing own same h = h
+stream_alikes d e f n HasDue own same h = h
 stream_alikes d e f n PeerFirst own same h = h
 stream_alikes d e f n Sent own same h = h
 stream_alikes d e f n DueLen own same h = h
@@ -154,8 +199,8 @@ left_domain t None s = worked_domain t s
 left_domain t (Some pool) s = worked_domain t (sees s pool)
 
 keeps-lent : (o : Option Pool) (s : StreamState) (t : Table) → KeepsOthers s.domain t (table_worked t (lent_to o s))
-keeps-lent None s t = keeps-worked s t
-keeps-lent (Some pool) s t = keeps-worked (sees s pool) t
+keeps-lent None s t = keeps-others s t
+keeps-lent (Some pool) s t = keeps-others (sees s pool) t
 
 worked_leaves : (d : ℕ) (e : EndpointState) (n : ℕ) (IsNew : ℕ → ℕ → Type 0) (s : StreamState) → stream_of e n ≡ Some s → IsOwn d (Some s) → Leaves d e (with_worked e n s) IsNew
 worked_leaves d e n IsNew s is own =
@@ -191,9 +236,31 @@ stream_leaves d e n BreakLink IsNew own =
     changing_leaves (λ s. with_stream e n (stream.breaks s)) d e n IsNew own.0 (λ s is own. leaves-changed d e n s (stream.breaks s) IsNew is own refl)
 stream_leaves d e n (SetMulpdu size) IsNew own =
     refusing_leaves (λ s. stream.size_refusal size) (λ s. with_stream e n (stream.with_mulpdu s size)) d e n IsNew own.0 (λ s is own. leaves-changed d e n s (stream.with_mulpdu s size) IsNew is own refl)
-stream_leaves d e n Close IsNew own = refusing_leaves rest_refusal (closes e n) d e n IsNew own.0 (λ s is here. leaves-closed d e n s IsNew is own)
+stream_leaves d e n Close IsNew own = refusing_leaves rest_refusal (closes e n) d e n IsNew own.0 (λ s is here.
+    let put = leaves-closed d e n s IsNew is own in record {
+      table = subst (λ x. KeepsOthers x e.table (retired e.table (peer_of s))) here (keeps-step s.domain e.table (regions.own_retired (tables.part_of e.table s.domain) s.number));
+      places = put.places;
+      pools = put.pools;
+      streams = put.streams;
+      closed = put.closed;
+      given = put.given;
+      owners = put.owners;
+      ended = put.ended;
+    })
+stream_leaves d e n (RegisterFor base octets rights) IsNew own = go (stream_of e n) own.0
+  where
+    go : (o : Option StreamState) → IsOwn d o
+        → Leaves d e (unless (option_or (refusal_at o (λ s. if ended s then Some limits.Ended else None)) (option_map (λ refusal. Refused (limits.Refused refusal)) (register_refusal e.table (unwrap_or o unopened).domain base (length octets)))) e
+        (with_table e (tables.registered e.table (unwrap_or o unopened).domain (bound_region n base octets rights)))) IsNew
+    go None own = leaves-all d e IsNew
+    go (Some s) own = subst (λ x. Leaves x e (unless (option_or (refusal_at (Some s) (λ s. if ended s then Some limits.Ended else None)) (option_map (λ refusal. Refused (limits.Refused refusal)) (register_refusal e.table s.domain base (length octets)))) e
+        (with_table e (tables.registered e.table s.domain (bound_region n base octets rights)))) IsNew) own
+        (region_leaves (option_or (refusal_at (Some s) (λ s. if ended s then Some limits.Ended else None)) (option_map (λ refusal. Refused (limits.Refused refusal)) (register_refusal e.table s.domain base (length octets)))) s.domain e (regions.own_registered (tables.part_of e.table s.domain) (bound_region n base octets rights)) IsNew)
 stream_leaves d e n Private IsNew own = leaves-all d e IsNew
 stream_leaves d e n Told IsNew own = leaves-all d e IsNew
+stream_leaves d e n PeerOptions IsNew own = leaves-all d e IsNew
+stream_leaves d e n Standing IsNew own = leaves-all d e IsNew
+stream_leaves d e n HasDue IsNew own = leaves-all d e IsNew
 stream_leaves d e n PeerFirst IsNew own = leaves-all d e IsNew
 stream_leaves d e n Sent IsNew own = leaves-all d e IsNew
 stream_leaves d e n DueLen IsNew own = leaves-all d e IsNew
@@ -287,28 +354,28 @@ refused_leaves (Some refusal) d e new IsNew never = leaves-all d e IsNew
 next_one : (d : ℕ) (e : EndpointState) (n : Option ℕ) (role : Role) (config : Config) → HasDomains e → IfSome n (IsOwnNumber d e) → OwnStep d e (OpenNext n d role config)
 next_one d e n role config all own =
     let h = seen_alone d e all in let f = alone d (part_of d e) in
-    let x = stream.opened d role config in
     let m = unwrap_or n 0 in
+    let x = new_stream m d role config in
     one_step d e (OpenNext n d role config) all (ap OpenedNext (next_alike d e f n role config h))
     (subst (λ q. AreSeenAlike d (unless (next_refusal e n d role config) e (with_next e m x)) (unless q f (with_next f m x))) (next_alike d e f n role config h) (nexts_alike (next_refusal e n d role config) d e f m x h))
     (go n own)
   where
-    go : (n : Option ℕ) → IfSome n (IsOwnNumber d e) → Leaves d e (unless (next_refusal e n d role config) e (with_next e (unwrap_or n 0) (stream.opened d role config))) (λ k pd. (n ≡ Some k) × (d ≡ pd))
+    go : (n : Option ℕ) → IfSome n (IsOwnNumber d e) → Leaves d e (unless (next_refusal e n d role config) e (with_next e (unwrap_or n 0) (new_stream (unwrap_or n 0) d role config))) (λ k pd. (n ≡ Some k) × (d ≡ pd))
     go None own = refused_leaves (next_refusal e None d role config) d e _ _ (never e d role config)
-    go (Some m) own = next_leaves (next_refusal e (Some m) d role config) d e m (stream.opened d role config) _ refl own.0 (refl, refl)
+    go (Some m) own = next_leaves (next_refusal e (Some m) d role config) d e m (new_stream m d role config) _ refl own.0 (refl, refl)
 
 next_shared_one : (d : ℕ) (e : EndpointState) (n : Option ℕ) (role : Role) (config : Config) → HasDomains e → IfSome n (IsOwnNumber d e) → OwnStep d e (OpenSharedNext n d role config)
 next_shared_one d e n role config all own =
     let h = seen_alone d e all in let f = alone d (part_of d e) in
-    let x = stream.opened_shared d role config in
     let m = unwrap_or n 0 in
+    let x = new_shared m d role config in
     one_step d e (OpenSharedNext n d role config) all (ap OpenedNext (next_shared_alike d e f n role config h))
     (subst (λ q. AreSeenAlike d (unless (next_shared_refusal e n d role config) e (with_next e m x)) (unless q f (with_next f m x))) (next_shared_alike d e f n role config h) (nexts_alike (next_shared_refusal e n d role config) d e f m x h))
     (go n own)
   where
-    go : (n : Option ℕ) → IfSome n (IsOwnNumber d e) → Leaves d e (unless (next_shared_refusal e n d role config) e (with_next e (unwrap_or n 0) (stream.opened_shared d role config))) (λ k pd. (n ≡ Some k) × (d ≡ pd))
+    go : (n : Option ℕ) → IfSome n (IsOwnNumber d e) → Leaves d e (unless (next_shared_refusal e n d role config) e (with_next e (unwrap_or n 0) (new_shared (unwrap_or n 0) d role config))) (λ k pd. (n ≡ Some k) × (d ≡ pd))
     go None own = refused_leaves (next_shared_refusal e None d role config) d e _ _ (never_shared e d role config)
-    go (Some m) own = next_leaves (next_shared_refusal e (Some m) d role config) d e m (stream.opened_shared d role config) _ refl own.0 (refl, refl)
+    go (Some m) own = next_leaves (next_shared_refusal e (Some m) d role config) d e m (new_shared m d role config) _ refl own.0 (refl, refl)
 
 -- ---- any call
 
@@ -354,7 +421,7 @@ concerns_one d e (Open n pd role config) all here = subst (λ x. IsOwnNumber x e
     let h = seen_alone pd e all in let f = alone pd (part_of pd e) in
     let there = alone_number pd e n in
     let same = open_alike pd e f n role config (stream_alike pd e f n own.0 there.0 h) (closed_alike pd e f n own.1 there.1 h) h in
-    let x = stream.opened pd role config in
+    let x = new_stream n pd role config in
     let place : open_refusal e n pd role config ≡ None → n < 64 = λ none. numbered e n pd (first_none (number_refusal e n pd) (request_refusal role config) none) in
     one_step pd e (Open n pd role config) all (ap Opened same)
     (subst (λ q. AreSeenAlike pd (unless (open_refusal e n pd role config) e (with_stream e n x)) (unless q f (with_stream f n x))) same (opens_alike (open_refusal e n pd role config) pd e f n x place h))
@@ -379,7 +446,7 @@ concerns_one d e (OpenShared n pd role config) all here = subst (λ x. IsOwnNumb
     let h = seen_alone pd e all in let f = alone pd (part_of pd e) in
     let there = alone_number pd e n in
     let same = open_shared_alike pd e f n role config (stream_alike pd e f n own.0 there.0 h) (closed_alike pd e f n own.1 there.1 h) h in
-    let x = stream.opened_shared pd role config in
+    let x = new_shared n pd role config in
     let place : open_shared_refusal e n pd role config ≡ None → n < 64 = λ none. numbered e n pd (mapped_none open_shared_refusal_of (number_refusal e n pd) (first_none (option_map open_shared_refusal_of (number_refusal e n pd)) _ none)) in
     one_step pd e (OpenShared n pd role config) all (ap OpenedShared same)
     (subst (λ q. AreSeenAlike pd (unless (open_shared_refusal e n pd role config) e (with_stream e n x)) (unless q f (with_stream f n x))) same (opens_alike (open_shared_refusal e n pd role config) pd e f n x place h))

@@ -1,5 +1,5 @@
--- What the rules of a stream read and change of the regions is its own domain's.
-use Rattle.std.proofs.Common.{◌≡◌, ◌≢◌, ℕ, ◌+◌, Bool, true, false, List, [], ◌∷◌, length, Option, Some, None, Result, Ok, Err, refl, sym, ap, subst, ◌∙◌, arith, inl, inr}
+-- What the rules of a stream read and change of the regions is what its peer may use.
+use Rattle.std.proofs.Common.{◌≡◌, ◌≢◌, ℕ, ◌+◌, Bool, true, false, List, [], length, Option, Some, None, Result, Ok, Err, refl, sym, ap, subst, ◌∙◌, arith, inl, inr}
 use Rattle.std.specs.Prelude.{not, if◌then◌else◌}
 use Rattle.std.specs.Option.{option_map, option_map_or}
 use Rattle.std.proofs.lemmas.List.{get_or_past}
@@ -12,13 +12,15 @@ use Rattle.iw_octets.specs.declared.segment.Segment.{Segment}
 use Rattle.iw_octets.specs.declared.segment.Segment.TheVariants.{Tagged, Untagged}
 use Rattle.iw_octets.specs.declared.stag.Stag.{Stag}
 use Rattle.iw_octets.specs.Segment.{read_segment}
-use Rattle.iw_memory.specs.declared.refusal.InvalidateDeny.TheVariants.{NotAssociated, Invalid, NotAllowed}
+use Rattle.iw_memory.specs.declared.peer.Peer.{Peer}
+use Rattle.iw_memory.specs.declared.refusal.InvalidateDeny.TheVariants.{NotAssociated, Invalid}
 use Rattle.iw_memory.specs.declared.rights.Right.{Right}
 use Rattle.iw_memory.specs.declared.rights.Right.TheVariants as rights
-use Rattle.iw_memory.specs.Part.{Part, own_put, own_invalidated, own_region, own_denial, own_invalidate_denial}
+use Rattle.iw_memory.specs.Laws.{AnswersAlike}
+use Rattle.iw_memory.specs.Part.{Part, own_put, own_invalidated, own_region, own_denial_for, own_invalidate_denial_for, region_invalidate_denial}
 use Rattle.iw_memory.specs.Region.{Region, octets_from}
-use Rattle.iw_memory.specs.Table.{Table, part_of, with_part, put, denial, invalidate_denial, invalidated, region_at, octets_at}
-use Rattle.iw_memory.proofs.Callers.{length-with_part, part_of-with_part_same, part_of-with_part_other, allows}
+use Rattle.iw_memory.specs.Table.{Table, part_of, with_part, put, denial_for, invalidate_denial_for, invalidated, region_at, octets_at}
+use Rattle.iw_memory.proofs.Callers.{length-with_part, part_of-with_part_same, part_of-with_part_other, allows, no_octets}
 use Rattle.iw_memory.proofs.TableLemmas.{put-nothing}
 use Rattle.iw_fpdu.specs.declared.fpdu.Mismatch.{Mismatch}
 use Rattle.iw_rdmap.specs.declared.head.Head.{Head}
@@ -42,7 +44,7 @@ use Rattle.iw_startup.specs.declared.progress.Progress.TheVariants as progress
 use Rattle.iw_stream.specs.Frames.{Frame, payload_of, segment_in, head_in, payload_len}
 use Rattle.iw_stream.specs.Judging.{or_else, fault_or, fault_told, place_in, place_verdict, head_verdict, judged_head, mismatch_fault, verdict, table_landed, send_turning, invalidate_fault, invalidation_fault, answering_by, is_response, segment_turn, turn_of, table_turned, early_verdict, landing_in, may_be_early, table_tried}
 use Rattle.iw_stream.specs.Starting.{first_place_in, heard, mismatch_in, progress_in}
-use Rattle.iw_stream.specs.Stream.{StreamState, Due, frame_fetched, frame_of, octets_fetched, emission_fetched, left_fetched, octets_due, emission_due, left_due, due, emission_of, emitted, after_emit}
+use Rattle.iw_stream.specs.Stream.{StreamState, Due, peer_of, frame_fetched, frame_of, octets_fetched, emission_fetched, left_fetched, octets_due, emission_due, left_due, due, emission_of, emitted, after_emit}
 use Rattle.iw_stream.specs.Stream.{StartUp, LastWord, Ready, NextPart, NoneDue, Response as ResponseDue}
 use Rattle.iw_stream.specs.Work.{Task, HandOut, GiveUp, GiveBack, Hear, Turn, Clash, Judge, Try, Rest, task, standing, step_of, left_by, table_left, table_judged, table_passed, judged_step, tried_step, turned_step, after_judging, after_trying, after_turn, after_opening, after_hearing, hears, inbox, work_step, worked, table_worked}
 
@@ -51,6 +53,9 @@ use Rattle.iw_stream.specs.Work.{Task, HandOut, GiveUp, GiveBack, Hear, Turn, Cl
 pub record AreAlike (d : ℕ) (t u : Table) : Type 0 where
   pub size : length t ≡ length u
   pub part : part_of t d ≡ part_of u d
+
+alike-back : (d : ℕ) (t u : Table) → AreAlike d t u → AreAlike d u t
+alike-back d t u h = record { size = sym h.size; part = sym h.part }
 
 -- the same step on both leaves them alike
 pub alike-step : (d : ℕ) (t u : Table) (own : Part → Part) → AreAlike d t u → AreAlike d (with_part t d (own (part_of t d))) (with_part u d (own (part_of u d)))
@@ -72,78 +77,102 @@ alike-other d e t u p q ne h = record {
 }
 
 -- the same step on any domain's part leaves them alike
-alike-own : (d e : ℕ) (t u : Table) (own : Part → Part) → AreAlike d t u → AreAlike d (with_part t e (own (part_of t e))) (with_part u e (own (part_of u e)))
+pub alike-own : (d e : ℕ) (t u : Table) (own : Part → Part) → AreAlike d t u → AreAlike d (with_part t e (own (part_of t e))) (with_part u e (own (part_of u e)))
 alike-own d e t u own h = elim (eqb_tells e d) [
   | inl here ↦ subst (λ (x : ℕ). AreAlike d (with_part t x (own (part_of t x))) (with_part u x (own (part_of u x)))) (sym here.1) (alike-step d t u own h)
   | inr off ↦ alike-other d e t u _ _ (λ e. off.1 (sym e)) h
 ]
 
+-- ---- what the STags of the domain name
+
+pub region-alike : (d : ℕ) (t u : Table) (stag : Stag) → stag.domain ≡ d → AreAlike d t u → region_at t stag ≡ region_at u stag
+region-alike d t u stag here h =
+    ap (λ e. own_region (part_of t e) stag) here ∙ ap (λ part. own_region part stag) h.part ∙ ap (λ e. own_region (part_of u e) stag) (sym here)
+
+pub none_taken : (o : Option Region) (to n : ℕ) → n ≡ 0 → option_map_or (λ r. octets_from r to n) o [] ≡ []
+none_taken None to n none = refl
+none_taken (Some r) to n none = ap (λ n. octets_from r to n) none
+
+pub octets-alike : (peer : Peer) (t u : Table) (stag : Stag) (to n : ℕ) (right : Right) → denial_for t peer stag to n right ≡ None → AreAlike peer.domain t u → octets_at t stag to n ≡ octets_at u stag to n
+octets-alike peer t u stag to n right none h = elim (allows t peer stag to n right none) [
+  | inl nothing ↦ none_taken (region_at t stag) to n nothing ∙ sym (none_taken (region_at u stag) to n nothing)
+  | inr allowed ↦ ap (λ o. option_map_or (λ r. octets_from r to n) o []) (region-alike peer.domain t u stag allowed.0 h)
+]
+
 -- ---- what the checks read
 
-placing-alike : (d : ℕ) (t u : Table) (head : TaggedHead) (n : ℕ) (right : Right) → AreAlike d t u → placing_fault t d head n right ≡ placing_fault u d head n right
-placing-alike d t u head n right h = ap (λ part. option_map placing.denial_fault (own_denial part d head.stag head.to n right)) h.part
+-- a peer is answered alike by tables that are alike in its domain's part
+pub answers-own : (d : ℕ) (stream : Option ℕ) (t u : Table) → AreAlike d t u → AnswersAlike u t (record { domain = d; stream = stream })
+answers-own d stream t u h = record {
+  denied = λ stag to n right. ap (λ part. own_denial_for part (record { domain = d; stream = stream }) stag to n right) h.part;
+  invalidate_denied = λ stag. ap (λ part. own_invalidate_denial_for part (record { domain = d; stream = stream }) stag) h.part;
+  octets = λ stag to n right none. sym (octets-alike (record { domain = d; stream = stream }) u t stag to n right none (alike-back d t u h));
+}
 
-place-alike : (s : StreamState) (t u : Table) (head : Head) (n : ℕ) → AreAlike s.domain t u → place_verdict (standing t s) head n ≡ place_verdict (standing u s) head n
-place-alike s t u (heads.Write head) n h = ap (λ o. fault_or o (Write (place_in head n))) (placing-alike s.domain t u head n rights.Write h)
-place-alike s t u (heads.Response head) n h = ap (λ o. fault_or (or_else (sink_fault s.reads head n) o) (Response (place_in head n))) (placing-alike s.domain t u head n rights.Sink h)
-place-alike s t u (heads.Send head) n h = refl
-place-alike s t u (heads.Request head request) n h =
-    ap (λ part. fault_or (option_map source.denial_fault (own_denial part s.domain request.source request.source_to request.size rights.Read)) (Request request)) h.part
-place-alike s t u (heads.Terminate head word) n h = refl
+same_placing : (peer : Peer) (t u : Table) (head : TaggedHead) (n : ℕ) (right : Right) → AnswersAlike u t peer → placing_fault t peer head n right ≡ placing_fault u peer head n right
+same_placing peer t u head n right h = ap (option_map placing.denial_fault) (h.denied head.stag head.to n right)
 
-head-alike : (s : StreamState) (t u : Table) (r : Result Head Fault) (n : ℕ) → AreAlike s.domain t u → head_verdict (standing t s) r n ≡ head_verdict (standing u s) r n
-head-alike s t u (Ok head) n h = place-alike s t u head n h
-head-alike s t u (Err fault) n h = refl
+same_place : (s : StreamState) (t u : Table) (head : Head) (n : ℕ) → AnswersAlike u t (peer_of s) → place_verdict (standing t s) head n ≡ place_verdict (standing u s) head n
+same_place s t u (heads.Write head) n h = ap (λ o. fault_or o (Write (place_in head n))) (same_placing (peer_of s) t u head n rights.Write h)
+same_place s t u (heads.Response head) n h = ap (λ o. fault_or (or_else (sink_fault s.reads head n) o) (Response (place_in head n))) (same_placing (peer_of s) t u head n rights.Sink h)
+same_place s t u (heads.Send head) n h = refl
+same_place s t u (heads.Request head request) n h =
+    ap (λ o. fault_or (option_map source.denial_fault o) (Request request)) (h.denied request.source request.source_to request.size rights.Read)
+same_place s t u (heads.Terminate head word) n h = refl
 
-pub verdict-alike : (s : StreamState) (t u : Table) (frame : Frame) → AreAlike s.domain t u → verdict (standing t s) frame ≡ verdict (standing u s) frame
-verdict-alike s t u frame h = ap (λ r. option_map_or (λ m. Err (mismatch_fault m)) frame.mismatch r) (head-alike s t u (judged_head (standing t s) frame.ulpdu) (length (payload_of (read_segment frame.ulpdu))) h)
+same_head : (s : StreamState) (t u : Table) (r : Result Head Fault) (n : ℕ) → AnswersAlike u t (peer_of s) → head_verdict (standing t s) r n ≡ head_verdict (standing u s) r n
+same_head s t u (Ok head) n h = same_place s t u head n h
+same_head s t u (Err fault) n h = refl
 
-pub early-alike : (s : StreamState) (t u : Table) (frame : Frame) → AreAlike s.domain t u → early_verdict (standing t s) frame ≡ early_verdict (standing u s) frame
-early-alike s t u frame h = ap (λ r. if may_be_early (judged_head (standing t s) frame.ulpdu) then landing_in r else None) (verdict-alike s t u frame h)
+pub same_verdict : (s : StreamState) (t u : Table) (frame : Frame) → AnswersAlike u t (peer_of s) → verdict (standing t s) frame ≡ verdict (standing u s) frame
+same_verdict s t u frame h = ap (λ r. option_map_or (λ m. Err (mismatch_fault m)) frame.mismatch r) (same_head s t u (judged_head (standing t s) frame.ulpdu) (length (payload_of (read_segment frame.ulpdu))) h)
 
-invalidation-alike : (d : ℕ) (t u : Table) (turning : Turning) → AreAlike d t u → invalidation_fault t d turning ≡ invalidation_fault u d turning
-invalidation-alike d t u Passed h = refl
-invalidation-alike d t u (Completed solicited None) h = refl
-invalidation-alike d t u (Completed solicited (Some stag)) h = ap (λ part. option_map invalidate_fault (own_invalidate_denial part d stag)) h.part
-invalidation-alike d t u (Answered ticket) h = refl
+pub same_early : (s : StreamState) (t u : Table) (frame : Frame) → AnswersAlike u t (peer_of s) → early_verdict (standing t s) frame ≡ early_verdict (standing u s) frame
+same_early s t u frame h = ap (λ r. if may_be_early (judged_head (standing t s) frame.ulpdu) then landing_in r else None) (same_verdict s t u frame h)
 
-segment_turn-alike : (d : ℕ) (t u : Table) (r : Receiving) (reads : List Outstanding) (n : ℕ) (segment : Option (Segment (List ℕ))) → AreAlike d t u → segment_turn t d r reads n segment ≡ segment_turn u d r reads n segment
-segment_turn-alike d t u r reads n None h = refl
-segment_turn-alike d t u r reads n (Some (Tagged head payload)) h = refl
-segment_turn-alike d t u r reads n (Some (Untagged head payload)) h =
-    ap (λ o. fault_or (or_else (turn_fault r head.msn head.mo) o) (send_turning head)) (invalidation-alike d t u (send_turning head) h)
+same_invalidation : (peer : Peer) (t u : Table) (turning : Turning) → AnswersAlike u t peer → invalidation_fault t peer turning ≡ invalidation_fault u peer turning
+same_invalidation peer t u Passed h = refl
+same_invalidation peer t u (Completed solicited None) h = refl
+same_invalidation peer t u (Completed solicited (Some stag)) h = ap (option_map invalidate_fault) (h.invalidate_denied stag)
+same_invalidation peer t u (Answered ticket) h = refl
 
-pub turn-alike : (s : StreamState) (t u : Table) (frame : PlacedFrame) → AreAlike s.domain t u → turn_of (standing t s) frame ≡ turn_of (standing u s) frame
-turn-alike s t u frame h = segment_turn-alike s.domain t u s.receiving s.reads (payload_len frame) (head_in frame) h
+same_segment_turn : (peer : Peer) (t u : Table) (r : Receiving) (reads : List Outstanding) (n : ℕ) (segment : Option (Segment (List ℕ))) → AnswersAlike u t peer → segment_turn t peer r reads n segment ≡ segment_turn u peer r reads n segment
+same_segment_turn peer t u r reads n None h = refl
+same_segment_turn peer t u r reads n (Some (Tagged head payload)) h = refl
+same_segment_turn peer t u r reads n (Some (Untagged head payload)) h =
+    ap (λ o. fault_or (or_else (turn_fault r head.msn head.mo) o) (send_turning head)) (same_invalidation peer t u (send_turning head) h)
+
+pub same_turn : (s : StreamState) (t u : Table) (frame : PlacedFrame) → AnswersAlike u t (peer_of s) → turn_of (standing t s) frame ≡ turn_of (standing u s) frame
+same_turn s t u frame h = same_segment_turn (peer_of s) t u s.receiving s.reads (payload_len frame) (head_in frame) h
 
 -- ---- work
 
-pub step-alike : (s : StreamState) (t u : Table) → AreAlike s.domain t u → work_step t s ≡ work_step u s
-step-alike s t u h = go (task s)
+pub same_step : (s : StreamState) (t u : Table) → AnswersAlike u t (peer_of s) → work_step t s ≡ work_step u s
+same_step s t u h = go (task s)
   where
     go : (k : Task) → step_of t s k ≡ step_of u s k
     go (HandOut done) = refl
     go (GiveUp done) = refl
     go (GiveBack buffer) = refl
     go Hear = refl
-    go (Turn frame) = ap (turned_step s.receiving frame) (turn-alike s t u frame h)
+    go (Turn frame) = ap (turned_step s.receiving frame) (same_turn s t u frame h)
     go (Clash frame) = refl
-    go (Judge frame) = ap judged_step (verdict-alike s t u frame h)
-    go (Try frame) = ap (tried_step (first_place_in s.start + frame.start)) (early-alike s t u frame h)
+    go (Judge frame) = ap judged_step (same_verdict s t u frame h)
+    go (Try frame) = ap (tried_step (first_place_in s.start + frame.start)) (same_early s t u frame h)
     go Rest = refl
 
-pub worked-alike : (s : StreamState) (t u : Table) → AreAlike s.domain t u → worked t s ≡ worked u s
-worked-alike s t u h = go (task s)
+pub same_worked : (s : StreamState) (t u : Table) → AnswersAlike u t (peer_of s) → worked t s ≡ worked u s
+same_worked s t u h = go (task s)
   where
     go : (k : Task) → left_by t s k ≡ left_by u s k
     go (HandOut done) = refl
     go (GiveUp done) = refl
     go (GiveBack buffer) = refl
     go Hear = refl
-    go (Turn frame) = ap (after_turn s frame) (turn-alike s t u frame h)
+    go (Turn frame) = ap (after_turn s frame) (same_turn s t u frame h)
     go (Clash frame) = refl
-    go (Judge frame) = ap (after_judging s frame) (verdict-alike s t u frame h)
-    go (Try frame) = ap (after_trying s frame) (early-alike s t u frame h)
+    go (Judge frame) = ap (after_judging s frame) (same_verdict s t u frame h)
+    go (Try frame) = ap (after_trying s frame) (same_early s t u frame h)
     go Rest = refl
 
 landed-alike : (d : ℕ) (t u : Table) (payload : List ℕ) (at : Landing) → AreAlike d t u → AreAlike d (table_landed t payload at) (table_landed u payload at)
@@ -180,14 +209,14 @@ table_worked-alike s t u h = go (task s)
     go (GiveBack buffer) = h
     go Hear = h
     go (Turn frame) =
-        subst (λ r. AreAlike s.domain (table_passed t (turn_of (standing t s) frame)) (table_passed u r)) (turn-alike s t u frame h)
+        subst (λ r. AreAlike s.domain (table_passed t (turn_of (standing t s) frame)) (table_passed u r)) (same_turn s t u frame (answers-own s.domain s.number t u h))
         (passed-alike s.domain t u (turn_of (standing t s) frame) h)
     go (Clash frame) = h
     go (Judge frame) =
-        subst (λ r. AreAlike s.domain (table_judged t frame (verdict (standing t s) frame)) (table_judged u frame r)) (verdict-alike s t u frame h)
+        subst (λ r. AreAlike s.domain (table_judged t frame (verdict (standing t s) frame)) (table_judged u frame r)) (same_verdict s t u frame (answers-own s.domain s.number t u h))
         (judged-alike s.domain t u frame (verdict (standing t s) frame) h)
     go (Try frame) =
-        subst (λ o. AreAlike s.domain (table_tried t frame (early_verdict (standing t s) frame)) (table_tried u frame o)) (early-alike s t u frame h)
+        subst (λ o. AreAlike s.domain (table_tried t frame (early_verdict (standing t s) frame)) (table_tried u frame o)) (same_early s t u frame (answers-own s.domain s.number t u h))
         (tried-alike s.domain t u frame (early_verdict (standing t s) frame) h)
     go Rest = h
 
@@ -204,13 +233,9 @@ keeps-all d t = record { size = refl; parts = λ other ne. refl }
 pub keeps-step : (d : ℕ) (t : Table) (part : Part) → KeepsOthers d t (with_part t d part)
 keeps-step d t part = record { size = length-with_part t d part; parts = λ other ne. part_of-with_part_other t d other part ne }
 
-no_octets : (xs : List ℕ) → length xs ≡ 0 → xs ≡ []
-no_octets [] e = refl
-no_octets (x ∷ xs) e = absurd (omega arith)
-
-keeps-put : (d : ℕ) (t : Table) (stag : Stag) (to : ℕ) (octets : List ℕ) (right : Right) → denial t d stag to (length octets) right ≡ None → KeepsOthers d t (put t stag to octets)
-keeps-put d t stag to octets right none = elim (allows t d stag to (length octets) right none) [
-  | inl nothing ↦ subst (λ new. KeepsOthers d t new) (sym (ap (put t stag to) (no_octets octets nothing) ∙ put-nothing t stag to)) (keeps-all d t)
+keeps-put : (peer : Peer) (t : Table) (stag : Stag) (to : ℕ) (octets : List ℕ) (right : Right) → denial_for t peer stag to (length octets) right ≡ None → KeepsOthers peer.domain t (put t stag to octets)
+keeps-put peer t stag to octets right none = elim (allows t peer stag to (length octets) right none) [
+  | inl nothing ↦ subst (λ new. KeepsOthers peer.domain t new) (sym (ap (put t stag to) (no_octets octets nothing) ∙ put-nothing t stag to)) (keeps-all peer.domain t)
   | inr allowed ↦ subst (λ e. KeepsOthers e t (put t stag to octets)) allowed.0 (keeps-step stag.domain t (own_put (part_of t stag.domain) stag to octets))
 ]
 
@@ -219,224 +244,266 @@ pub undenied : {D : Type 0} (o : Option D) (fault : D → Fault) → option_map 
 undenied None fault e = refl
 undenied (Some deny) fault e = absurd (none-some _ (sym e))
 
-keeps-landed : (s : StreamState) (t : Table) (head : Head) (payload : List ℕ) (r : Result Landing Fault) → place_verdict (standing t s) head (length payload) ≡ r → (at : Landing) → r ≡ Ok at → KeepsOthers s.domain t (table_landed t payload at)
-keeps-landed s t (heads.Write head) payload r is at ok = go (placing_fault t s.domain head (length payload) rights.Write) refl (is ∙ ok)
-  where
-    go : (o : Option Fault) → placing_fault t s.domain head (length payload) rights.Write ≡ o → fault_or o (Write (place_in head (length payload))) ≡ Ok at → KeepsOthers s.domain t (table_landed t payload at)
-    go None none e =
-        let same : Write (place_in head (length payload)) ≡ at = cc in
-        subst (λ x. KeepsOthers s.domain t (table_landed t payload x)) same (keeps-put s.domain t head.stag head.to payload rights.Write (undenied _ placing.denial_fault none))
-    go (Some fault) none e = absurd (let no : ⊥ = cc in no)
-keeps-landed s t (heads.Response head) payload r is at ok = go (sink_fault s.reads head (length payload)) (placing_fault t s.domain head (length payload) rights.Sink) refl (is ∙ ok)
-  where
-    go : (sink o : Option Fault) → placing_fault t s.domain head (length payload) rights.Sink ≡ o → fault_or (or_else sink o) (Response (place_in head (length payload))) ≡ Ok at → KeepsOthers s.domain t (table_landed t payload at)
-    go None None none e =
-        let same : Response (place_in head (length payload)) ≡ at = cc in
-        subst (λ x. KeepsOthers s.domain t (table_landed t payload x)) same (keeps-put s.domain t head.stag head.to payload rights.Sink (undenied _ placing.denial_fault none))
-    go None (Some fault) none e = absurd (let no : ⊥ = cc in no)
-    go (Some fault) o none e = absurd (let no : ⊥ = cc in no)
-keeps-landed s t (heads.Send head) payload r is at ok = go (buffer_fault s.receiving head.msn head.mo (length payload)) (is ∙ ok)
-  where
-    go : (o : Option Fault) → fault_or o (Send head.msn head.mo (length payload)) ≡ Ok at → KeepsOthers s.domain t (table_landed t payload at)
-    go None e = let same : Send head.msn head.mo (length payload) ≡ at = cc in subst (λ x. KeepsOthers s.domain t (table_landed t payload x)) same (keeps-all s.domain t)
-    go (Some fault) e = absurd (let no : ⊥ = cc in no)
-keeps-landed s t (heads.Request head request) payload r is at ok = go (source.source_fault t s.domain request) (is ∙ ok)
-  where
-    go : (o : Option Fault) → fault_or o (Request request) ≡ Ok at → KeepsOthers s.domain t (table_landed t payload at)
-    go None e = let same : Request request ≡ at = cc in subst (λ x. KeepsOthers s.domain t (table_landed t payload x)) same (keeps-all s.domain t)
-    go (Some fault) e = absurd (let no : ⊥ = cc in no)
-keeps-landed s t (heads.Terminate head word) payload r is at ok =
-    let same : Terminate (fault_told word) ≡ at = cc in subst (λ x. KeepsOthers s.domain t (table_landed t payload x)) same (keeps-all s.domain t)
+-- the table, and what the peer may make of it by one segment, have this
+pub record IsKeptBy (peer : Peer) (t : Table) (K : Table → Type 0) : Type 0 where
+  pub all : K t
+  pub placed : (stag : Stag) (to : ℕ) (octets : List ℕ) (right : Right) → denial_for t peer stag to (length octets) right ≡ None → K (put t stag to octets)
+  pub invalidated : (stag : Stag) → invalidate_denial_for t peer stag ≡ None → K (invalidated t stag)
 
-keeps-judged : (s : StreamState) (t : Table) (frame : Frame) → KeepsOthers s.domain t (table_judged t frame (verdict (standing t s) frame))
-keeps-judged s t frame = by_mismatch frame.mismatch
-  where
-    payload : List ℕ
-    payload = payload_of (segment_in frame)
+-- so has what a step leaves
+module _ (s : StreamState) (t : Table) (K : Table → Type 0) (kept : IsKeptBy (peer_of s) t K) where
+  keeps-landed : (head : Head) (payload : List ℕ) (r : Result Landing Fault) → place_verdict (standing t s) head (length payload) ≡ r → (at : Landing) → r ≡ Ok at → K (table_landed t payload at)
+  keeps-landed (heads.Write head) payload r is at ok = go (placing_fault t (peer_of s) head (length payload) rights.Write) refl (is ∙ ok)
+    where
+      go : (o : Option Fault) → placing_fault t (peer_of s) head (length payload) rights.Write ≡ o → fault_or o (Write (place_in head (length payload))) ≡ Ok at → K (table_landed t payload at)
+      go None none e =
+          let same : Write (place_in head (length payload)) ≡ at = cc in
+          subst (λ x. K (table_landed t payload x)) same (kept.placed head.stag head.to payload rights.Write (undenied _ placing.denial_fault none))
+      go (Some fault) none e = absurd (let no : ⊥ = cc in no)
+  keeps-landed (heads.Response head) payload r is at ok = go (sink_fault s.reads head (length payload)) (placing_fault t (peer_of s) head (length payload) rights.Sink) refl (is ∙ ok)
+    where
+      go : (sink o : Option Fault) → placing_fault t (peer_of s) head (length payload) rights.Sink ≡ o → fault_or (or_else sink o) (Response (place_in head (length payload))) ≡ Ok at → K (table_landed t payload at)
+      go None None none e =
+          let same : Response (place_in head (length payload)) ≡ at = cc in
+          subst (λ x. K (table_landed t payload x)) same (kept.placed head.stag head.to payload rights.Sink (undenied _ placing.denial_fault none))
+      go None (Some fault) none e = absurd (let no : ⊥ = cc in no)
+      go (Some fault) o none e = absurd (let no : ⊥ = cc in no)
+  keeps-landed (heads.Send head) payload r is at ok = go (buffer_fault s.receiving head.msn head.mo (length payload)) (is ∙ ok)
+    where
+      go : (o : Option Fault) → fault_or o (Send head.msn head.mo (length payload)) ≡ Ok at → K (table_landed t payload at)
+      go None e = let same : Send head.msn head.mo (length payload) ≡ at = cc in subst (λ x. K (table_landed t payload x)) same kept.all
+      go (Some fault) e = absurd (let no : ⊥ = cc in no)
+  keeps-landed (heads.Request head request) payload r is at ok = go (source.source_fault t (peer_of s) request) (is ∙ ok)
+    where
+      go : (o : Option Fault) → fault_or o (Request request) ≡ Ok at → K (table_landed t payload at)
+      go None e = let same : Request request ≡ at = cc in subst (λ x. K (table_landed t payload x)) same kept.all
+      go (Some fault) e = absurd (let no : ⊥ = cc in no)
+  keeps-landed (heads.Terminate head word) payload r is at ok =
+      let same : Terminate (fault_told word) ≡ at = cc in subst (λ x. K (table_landed t payload x)) same kept.all
 
-    landed : (head : Head) (r : Result Landing Fault) → place_verdict (standing t s) head (length payload) ≡ r → KeepsOthers s.domain t (table_judged t frame r)
-    landed head (Ok at) is = keeps-landed s t head payload (Ok at) is at refl
-    landed head (Err fault) is = keeps-all s.domain t
+  keeps-judged : (frame : Frame) → K (table_judged t frame (verdict (standing t s) frame))
+  keeps-judged frame = by_mismatch frame.mismatch
+    where
+      payload : List ℕ
+      payload = payload_of (segment_in frame)
 
-    by_head : (r : Result Head Fault) → KeepsOthers s.domain t (table_judged t frame (head_verdict (standing t s) r (length payload)))
-    by_head (Ok head) = landed head (place_verdict (standing t s) head (length payload)) refl
-    by_head (Err fault) = keeps-all s.domain t
+      landed : (head : Head) (r : Result Landing Fault) → place_verdict (standing t s) head (length payload) ≡ r → K (table_judged t frame r)
+      landed head (Ok at) is = keeps-landed head payload (Ok at) is at refl
+      landed head (Err fault) is = kept.all
 
-    by_mismatch : (m : Option Mismatch) → KeepsOthers s.domain t (table_judged t frame (option_map_or (λ m. Err (mismatch_fault m)) m (head_verdict (standing t s) (judged_head (standing t s) frame.ulpdu) (length payload))))
-    by_mismatch (Some m) = keeps-all s.domain t
-    by_mismatch None = by_head (judged_head (standing t s) frame.ulpdu)
+      by_head : (r : Result Head Fault) → K (table_judged t frame (head_verdict (standing t s) r (length payload)))
+      by_head (Ok head) = landed head (place_verdict (standing t s) head (length payload)) refl
+      by_head (Err fault) = kept.all
 
-keeps-tried : (s : StreamState) (t : Table) (frame : Frame) → KeepsOthers s.domain t (table_tried t frame (early_verdict (standing t s) frame))
-keeps-tried s t frame = by_test (may_be_early (judged_head (standing t s) frame.ulpdu))
-  where
-    placed : (r : Result Landing Fault) → KeepsOthers s.domain t (table_judged t frame r) → KeepsOthers s.domain t (table_tried t frame (landing_in r))
-    placed (Ok at) k = k
-    placed (Err fault) k = k
+      by_mismatch : (m : Option Mismatch) → K (table_judged t frame (option_map_or (λ m. Err (mismatch_fault m)) m (head_verdict (standing t s) (judged_head (standing t s) frame.ulpdu) (length payload))))
+      by_mismatch (Some m) = kept.all
+      by_mismatch None = by_head (judged_head (standing t s) frame.ulpdu)
 
-    by_test : (b : Bool) → KeepsOthers s.domain t (table_tried t frame (if b then landing_in (verdict (standing t s) frame) else None))
-    by_test true = placed (verdict (standing t s) frame) (keeps-judged s t frame)
-    by_test false = keeps-all s.domain t
+  keeps-tried : (frame : Frame) → K (table_tried t frame (early_verdict (standing t s) frame))
+  keeps-tried frame = by_test (may_be_early (judged_head (standing t s) frame.ulpdu))
+    where
+      placed : (r : Result Landing Fault) → K (table_judged t frame r) → K (table_tried t frame (landing_in r))
+      placed (Ok at) k = k
+      placed (Err fault) k = k
+
+      by_test : (b : Bool) → K (table_tried t frame (if b then landing_in (verdict (standing t s) frame) else None))
+      by_test true = placed (verdict (standing t s) frame) (keeps-judged frame)
+      by_test false = kept.all
+
+  keeps-turned : (turning : Turning) → invalidation_fault t (peer_of s) turning ≡ None → K (table_turned t turning)
+  keeps-turned Passed none = kept.all
+  keeps-turned (Completed solicited None) none = kept.all
+  keeps-turned (Completed solicited (Some stag)) none =
+      kept.invalidated stag (undenied _ invalidate_fault none)
+  keeps-turned (Answered ticket) none = kept.all
+
+  keeps-sent : (turning : Turning) (first later : Option Fault) → invalidation_fault t (peer_of s) turning ≡ later → K (table_passed t (fault_or (or_else first later) turning))
+  keeps-sent turning (Some fault) later is = kept.all
+  keeps-sent turning None (Some fault) is = kept.all
+  keeps-sent turning None None is = keeps-turned turning is
+
+  keeps-tagged : (responds : Bool) (fault : Option Fault) (ticket : Option ℕ) → K (table_passed t (if responds then fault_or fault (answering_by ticket) else Ok Passed))
+  keeps-tagged false fault ticket = kept.all
+  keeps-tagged true (Some fault) ticket = kept.all
+  keeps-tagged true None None = kept.all
+  keeps-tagged true None (Some ticket) = kept.all
+
+  keeps-passed : (r : Receiving) (reads : List Outstanding) (n : ℕ) (segment : Option (Segment (List ℕ))) → K (table_passed t (segment_turn t (peer_of s) r reads n segment))
+  keeps-passed r reads n None = kept.all
+  keeps-passed r reads n (Some (Tagged head payload)) = keeps-tagged (is_response head) (response_turn_fault reads head n) (finished_read reads head)
+  keeps-passed r reads n (Some (Untagged head payload)) = keeps-sent (send_turning head) (turn_fault r head.msn head.mo) (invalidation_fault t (peer_of s) (send_turning head)) refl
+
+  pub keeps-worked : K (table_worked t s)
+  keeps-worked = go (task s)
+    where
+      go : (k : Task) → K (table_left t s k)
+      go (HandOut done) = kept.all
+      go (GiveUp done) = kept.all
+      go (GiveBack buffer) = kept.all
+      go Hear = kept.all
+      go (Turn frame) = keeps-passed s.receiving s.reads (payload_len frame) (head_in frame)
+      go (Clash frame) = kept.all
+      go (Judge frame) = keeps-judged frame
+      go (Try frame) = keeps-tried frame
+      go Rest = kept.all
 
 -- a region that may be invalidated is of the domain
-own_stag : (t : Table) (d : ℕ) (stag : Stag) → invalidate_denial t d stag ≡ None → stag.domain ≡ d
-own_stag t d stag none = elim (eqb_tells stag.domain d) [
+own_stag : (t : Table) (peer : Peer) (stag : Stag) → invalidate_denial_for t peer stag ≡ None → stag.domain ≡ peer.domain
+own_stag t peer stag none = elim (eqb_tells stag.domain peer.domain) [
   | inl same ↦ same.1
-  | inr other ↦ absurd (none-some _ (sym none ∙ ap (λ b. if not b then Some NotAssociated else option_map_or (λ r. if not r.valid then Some Invalid else (if not r.rights.invalidate then Some NotAllowed else None)) (own_region (part_of t d) stag) (Some Invalid)) other.0))
+  | inr other ↦ absurd (none-some _ (sym none ∙ ap (λ b. if not b then Some NotAssociated else option_map_or (λ r. region_invalidate_denial r peer.stream) (own_region (part_of t peer.domain) stag) (Some Invalid)) other.0))
 ]
 
-keeps-turned : (d : ℕ) (t : Table) (turning : Turning) → invalidation_fault t d turning ≡ None → KeepsOthers d t (table_turned t turning)
-keeps-turned d t Passed none = keeps-all d t
-keeps-turned d t (Completed solicited None) none = keeps-all d t
-keeps-turned d t (Completed solicited (Some stag)) none =
-    subst (λ e. KeepsOthers e t (invalidated t stag)) (own_stag t d stag (undenied _ invalidate_fault none)) (keeps-step stag.domain t (own_invalidated (part_of t stag.domain) stag))
-keeps-turned d t (Answered ticket) none = keeps-all d t
-
-keeps-sent : (d : ℕ) (t : Table) (turning : Turning) (first later : Option Fault) → invalidation_fault t d turning ≡ later → KeepsOthers d t (table_passed t (fault_or (or_else first later) turning))
-keeps-sent d t turning (Some fault) later is = keeps-all d t
-keeps-sent d t turning None (Some fault) is = keeps-all d t
-keeps-sent d t turning None None is = keeps-turned d t turning is
-
-keeps-tagged : (d : ℕ) (t : Table) (responds : Bool) (fault : Option Fault) (ticket : Option ℕ) → KeepsOthers d t (table_passed t (if responds then fault_or fault (answering_by ticket) else Ok Passed))
-keeps-tagged d t false fault ticket = keeps-all d t
-keeps-tagged d t true (Some fault) ticket = keeps-all d t
-keeps-tagged d t true None None = keeps-all d t
-keeps-tagged d t true None (Some ticket) = keeps-all d t
-
-keeps-passed : (d : ℕ) (t : Table) (r : Receiving) (reads : List Outstanding) (n : ℕ) (segment : Option (Segment (List ℕ))) → KeepsOthers d t (table_passed t (segment_turn t d r reads n segment))
-keeps-passed d t r reads n None = keeps-all d t
-keeps-passed d t r reads n (Some (Tagged head payload)) = keeps-tagged d t (is_response head) (response_turn_fault reads head n) (finished_read reads head)
-keeps-passed d t r reads n (Some (Untagged head payload)) = keeps-sent d t (send_turning head) (turn_fault r head.msn head.mo) (invalidation_fault t d (send_turning head)) refl
-
-pub keeps-worked : (s : StreamState) (t : Table) → KeepsOthers s.domain t (table_worked t s)
-keeps-worked s t = go (task s)
-  where
-    go : (k : Task) → KeepsOthers s.domain t (table_left t s k)
-    go (HandOut done) = keeps-all s.domain t
-    go (GiveUp done) = keeps-all s.domain t
-    go (GiveBack buffer) = keeps-all s.domain t
-    go Hear = keeps-all s.domain t
-    go (Turn frame) = keeps-passed s.domain t s.receiving s.reads (payload_len frame) (head_in frame)
-    go (Clash frame) = keeps-all s.domain t
-    go (Judge frame) = keeps-judged s t frame
-    go (Try frame) = keeps-tried s t frame
-    go Rest = keeps-all s.domain t
+pub keeps-others : (s : StreamState) (t : Table) → KeepsOthers s.domain t (table_worked t s)
+keeps-others s t = keeps-worked s t (KeepsOthers s.domain t) (record {
+  all = keeps-all s.domain t;
+  placed = λ stag to octets right none. keeps-put (peer_of s) t stag to octets right none;
+  invalidated = λ stag none. subst (λ e. KeepsOthers e t (invalidated t stag)) (own_stag t (peer_of s) stag none) (keeps-step stag.domain t (own_invalidated (part_of t stag.domain) stag));
+})
 
 -- ---- emission
 
-pub region-alike : (d : ℕ) (t u : Table) (stag : Stag) → stag.domain ≡ d → AreAlike d t u → region_at t stag ≡ region_at u stag
-region-alike d t u stag here h =
-    ap (λ e. own_region (part_of t e) stag) here ∙ ap (λ part. own_region part stag) h.part ∙ ap (λ e. own_region (part_of u e) stag) (sym here)
-
-pub none_taken : (o : Option Region) (to n : ℕ) → n ≡ 0 → option_map_or (λ r. octets_from r to n) o [] ≡ []
-none_taken None to n none = refl
-none_taken (Some r) to n none = ap (λ n. octets_from r to n) none
-
-pub octets-alike : (d : ℕ) (t u : Table) (stag : Stag) (to n : ℕ) (right : Right) → denial t d stag to n right ≡ None → AreAlike d t u → octets_at t stag to n ≡ octets_at u stag to n
-octets-alike d t u stag to n right none h = elim (allows t d stag to n right none) [
-  | inl nothing ↦ none_taken (region_at t stag) to n nothing ∙ sym (none_taken (region_at u stag) to n nothing)
-  | inr allowed ↦ ap (λ o. option_map_or (λ r. octets_from r to n) o []) (region-alike d t u stag allowed.0 h)
-]
-
-pub fetched-alike : (s : StreamState) (t u : Table) (part : ResponsePart) → AreAlike s.domain t u → frame_fetched t s part ≡ frame_fetched u s part
-fetched-alike s t u part h = go (fetch_fault t s.domain part) refl (sym fault_is)
+pub same_fetched : (s : StreamState) (t u : Table) (part : ResponsePart) → AnswersAlike u t (peer_of s) → frame_fetched t s part ≡ frame_fetched u s part
+same_fetched s t u part h = go (fetch_fault u (peer_of s) part) refl fault_is
   where
-    fault_is : fetch_fault t s.domain part ≡ fetch_fault u s.domain part
-    fault_is = ap (λ p. option_map source.denial_fault (own_denial p s.domain part.stag part.to part.n rights.Read)) h.part
+    fault_is : fetch_fault t (peer_of s) part ≡ fetch_fault u (peer_of s) part
+    fault_is = ap (option_map source.denial_fault) (h.denied part.stag part.to part.n rights.Read)
 
     frame : List ℕ → List ℕ
     frame octets = frame_of s (Tagged part.head octets)
 
-    go : (o : Option Fault) → fetch_fault t s.domain part ≡ o → fetch_fault u s.domain part ≡ fetch_fault t s.domain part → frame_fetched t s part ≡ frame_fetched u s part
+    go : (o : Option Fault) → fetch_fault u (peer_of s) part ≡ o → fetch_fault t (peer_of s) part ≡ fetch_fault u (peer_of s) part → frame_fetched t s part ≡ frame_fetched u s part
     go (Some fault) is same =
-        ap (λ o. fault_or o (frame (fetched_octets t part))) is ∙ sym (ap (λ o. fault_or o (frame (fetched_octets u part))) (same ∙ is))
+        ap (λ o. fault_or o (frame (fetched_octets t part))) (same ∙ is) ∙ sym (ap (λ o. fault_or o (frame (fetched_octets u part))) is)
     go None is same =
-        ap (λ octets. fault_or (fetch_fault t s.domain part) (frame octets)) (octets-alike s.domain t u part.stag part.to part.n rights.Read (undenied _ source.denial_fault is) h)
-        ∙ ap (λ o. fault_or o (frame (fetched_octets u part))) (sym same)
+        ap (λ octets. fault_or (fetch_fault t (peer_of s) part) (frame octets)) (h.octets part.stag part.to part.n rights.Read (undenied _ source.denial_fault is))
+        ∙ ap (λ o. fault_or o (frame (fetched_octets u part))) same
 
-pub emission-alike : (s : StreamState) (t u : Table) → AreAlike s.domain t u → emission_of t s ≡ emission_of u s
-emission-alike s t u h = go (due s)
+pub same_emission : (s : StreamState) (t u : Table) → AnswersAlike u t (peer_of s) → emission_of t s ≡ emission_of u s
+same_emission s t u h = go (due s)
   where
     go : (k : Due) → emission_due t s k ≡ emission_due u s k
     go StartUp = refl
     go (LastWord payload) = refl
     go (Ready rtr) = refl
-    go (ResponseDue part) = ap (emission_fetched s part) (fetched-alike s t u part h)
+    go (ResponseDue part) = ap (emission_fetched s part) (same_fetched s t u part h)
     go (NextPart part) = refl
     go NoneDue = refl
 
-pub emitted-alike : (s : StreamState) (t u : Table) → AreAlike s.domain t u → emitted t s ≡ emitted u s
-emitted-alike s t u h = go (due s)
+pub same_emitted : (s : StreamState) (t u : Table) → AnswersAlike u t (peer_of s) → emitted t s ≡ emitted u s
+same_emitted s t u h = go (due s)
   where
     go : (k : Due) → octets_due t s k ≡ octets_due u s k
     go StartUp = refl
     go (LastWord payload) = refl
     go (Ready rtr) = refl
-    go (ResponseDue part) = ap octets_fetched (fetched-alike s t u part h)
+    go (ResponseDue part) = ap octets_fetched (same_fetched s t u part h)
     go (NextPart part) = refl
     go NoneDue = refl
 
-pub after_emit-alike : (s : StreamState) (t u : Table) → AreAlike s.domain t u → after_emit t s ≡ after_emit u s
-after_emit-alike s t u h = go (due s)
+pub same_after_emit : (s : StreamState) (t u : Table) → AnswersAlike u t (peer_of s) → after_emit t s ≡ after_emit u s
+same_after_emit s t u h = go (due s)
   where
     go : (k : Due) → left_due t s k ≡ left_due u s k
     go StartUp = refl
     go (LastWord payload) = refl
     go (Ready rtr) = refl
-    go (ResponseDue part) = ap (left_fetched s part) (fetched-alike s t u part h)
+    go (ResponseDue part) = ap (left_fetched s part) (same_fetched s t u part h)
     go (NextPart part) = refl
     go NoneDue = refl
 
--- ---- a stream stays in its domain
+-- ---- the same of tables that are alike in the part of the stream's domain
 
-opening_domain : (s : StreamState) (o : Option enhanced.Mismatch) → (after_opening s o).domain ≡ s.domain
-opening_domain s None = refl
-opening_domain s (Some mismatch) = refl
+pub verdict-alike : (s : StreamState) (t u : Table) (frame : Frame) → AreAlike s.domain t u → verdict (standing t s) frame ≡ verdict (standing u s) frame
+verdict-alike s t u frame h = same_verdict s t u frame (answers-own s.domain s.number t u h)
 
-heard_domain : (s : StreamState) (p : Progress) → (after_hearing s p).domain ≡ s.domain
-heard_domain s progress.More = refl
-heard_domain s progress.Asked = refl
-heard_domain s progress.Agreed = opening_domain (hears s) (mismatch_in (heard s.start (inbox s)))
-heard_domain s (progress.Faulted fault) = refl
+pub early-alike : (s : StreamState) (t u : Table) (frame : Frame) → AreAlike s.domain t u → early_verdict (standing t s) frame ≡ early_verdict (standing u s) frame
+early-alike s t u frame h = same_early s t u frame (answers-own s.domain s.number t u h)
 
-turned_domain : (s : StreamState) (frame : PlacedFrame) (r : Result Turning Fault) → (after_turn s frame r).domain ≡ s.domain
-turned_domain s frame (Ok Passed) = refl
-turned_domain s frame (Ok (Completed solicited invalidate)) = refl
-turned_domain s frame (Ok (Answered ticket)) = refl
-turned_domain s frame (Err fault) = refl
+pub turn-alike : (s : StreamState) (t u : Table) (frame : PlacedFrame) → AreAlike s.domain t u → turn_of (standing t s) frame ≡ turn_of (standing u s) frame
+turn-alike s t u frame h = same_turn s t u frame (answers-own s.domain s.number t u h)
 
-judged_domain : (s : StreamState) (frame : Frame) (r : Result Landing Fault) → (after_judging s frame r).domain ≡ s.domain
-judged_domain s frame (Ok (Write at)) = refl
-judged_domain s frame (Ok (Response at)) = refl
-judged_domain s frame (Ok (Send msn mo len)) = refl
-judged_domain s frame (Ok (Request request)) = refl
-judged_domain s frame (Ok (Terminate fault)) = refl
-judged_domain s frame (Err fault) = refl
+pub step-alike : (s : StreamState) (t u : Table) → AreAlike s.domain t u → work_step t s ≡ work_step u s
+step-alike s t u h = same_step s t u (answers-own s.domain s.number t u h)
 
-pub worked_domain : (t : Table) (s : StreamState) → (worked t s).domain ≡ s.domain
-worked_domain t s = go (task s)
+pub worked-alike : (s : StreamState) (t u : Table) → AreAlike s.domain t u → worked t s ≡ worked u s
+worked-alike s t u h = same_worked s t u (answers-own s.domain s.number t u h)
+
+pub fetched-alike : (s : StreamState) (t u : Table) (part : ResponsePart) → AreAlike s.domain t u → frame_fetched t s part ≡ frame_fetched u s part
+fetched-alike s t u part h = same_fetched s t u part (answers-own s.domain s.number t u h)
+
+pub emission-alike : (s : StreamState) (t u : Table) → AreAlike s.domain t u → emission_of t s ≡ emission_of u s
+emission-alike s t u h = same_emission s t u (answers-own s.domain s.number t u h)
+
+pub emitted-alike : (s : StreamState) (t u : Table) → AreAlike s.domain t u → emitted t s ≡ emitted u s
+emitted-alike s t u h = same_emitted s t u (answers-own s.domain s.number t u h)
+
+pub after_emit-alike : (s : StreamState) (t u : Table) → AreAlike s.domain t u → after_emit t s ≡ after_emit u s
+after_emit-alike s t u h = same_after_emit s t u (answers-own s.domain s.number t u h)
+
+-- ---- a stream keeps its domain and its number
+
+opening_peer : (s : StreamState) (o : Option enhanced.Mismatch) → peer_of (after_opening s o) ≡ peer_of s
+opening_peer s None = refl
+opening_peer s (Some mismatch) = refl
+
+heard_peer : (s : StreamState) (p : Progress) → peer_of (after_hearing s p) ≡ peer_of s
+heard_peer s progress.More = refl
+heard_peer s progress.Asked = refl
+heard_peer s progress.Agreed = opening_peer (hears s) (mismatch_in (heard s.start (inbox s)))
+heard_peer s (progress.Faulted fault) = refl
+
+turned_peer : (s : StreamState) (frame : PlacedFrame) (r : Result Turning Fault) → peer_of (after_turn s frame r) ≡ peer_of s
+turned_peer s frame (Ok Passed) = refl
+turned_peer s frame (Ok (Completed solicited invalidate)) = refl
+turned_peer s frame (Ok (Answered ticket)) = refl
+turned_peer s frame (Err fault) = refl
+
+judged_peer : (s : StreamState) (frame : Frame) (r : Result Landing Fault) → peer_of (after_judging s frame r) ≡ peer_of s
+judged_peer s frame (Ok (Write at)) = refl
+judged_peer s frame (Ok (Response at)) = refl
+judged_peer s frame (Ok (Send msn mo len)) = refl
+judged_peer s frame (Ok (Request request)) = refl
+judged_peer s frame (Ok (Terminate fault)) = refl
+judged_peer s frame (Err fault) = refl
+
+pub worked_peer : (t : Table) (s : StreamState) → peer_of (worked t s) ≡ peer_of s
+worked_peer t s = go (task s)
   where
-    go : (k : Task) → (left_by t s k).domain ≡ s.domain
+    go : (k : Task) → peer_of (left_by t s k) ≡ peer_of s
     go (HandOut done) = refl
     go (GiveUp done) = refl
     go (GiveBack buffer) = refl
-    go Hear = heard_domain s (progress_in s.start (inbox s))
-    go (Turn frame) = turned_domain s frame (turn_of (standing t s) frame)
+    go Hear = heard_peer s (progress_in s.start (inbox s))
+    go (Turn frame) = turned_peer s frame (turn_of (standing t s) frame)
     go (Clash frame) = refl
-    go (Judge frame) = judged_domain s frame (verdict (standing t s) frame)
+    go (Judge frame) = judged_peer s frame (verdict (standing t s) frame)
     go (Try frame) = refl
     go Rest = refl
 
-fetched_domain : (s : StreamState) (part : ResponsePart) (r : Result (List ℕ) Fault) → (left_fetched s part r).domain ≡ s.domain
-fetched_domain s part (Ok frame) = refl
-fetched_domain s part (Err fault) = refl
+fetched_peer : (s : StreamState) (part : ResponsePart) (r : Result (List ℕ) Fault) → peer_of (left_fetched s part r) ≡ peer_of s
+fetched_peer s part (Ok frame) = refl
+fetched_peer s part (Err fault) = refl
 
-pub emit_domain : (t : Table) (s : StreamState) → (after_emit t s).domain ≡ s.domain
-emit_domain t s = go (due s)
+pub emit_peer : (t : Table) (s : StreamState) → peer_of (after_emit t s) ≡ peer_of s
+emit_peer t s = go (due s)
   where
-    go : (k : Due) → (left_due t s k).domain ≡ s.domain
+    go : (k : Due) → peer_of (left_due t s k) ≡ peer_of s
     go StartUp = refl
     go (LastWord payload) = refl
     go (Ready rtr) = refl
-    go (ResponseDue part) = fetched_domain s part (frame_fetched t s part)
+    go (ResponseDue part) = fetched_peer s part (frame_fetched t s part)
     go (NextPart part) = refl
     go NoneDue = refl
+
+pub worked_domain : (t : Table) (s : StreamState) → (worked t s).domain ≡ s.domain
+worked_domain t s = ap (λ (p : Peer). p.domain) (worked_peer t s)
+
+pub worked_number : (t : Table) (s : StreamState) → (worked t s).number ≡ s.number
+worked_number t s = ap (λ (p : Peer). p.stream) (worked_peer t s)
+
+pub emit_domain : (t : Table) (s : StreamState) → (after_emit t s).domain ≡ s.domain
+emit_domain t s = ap (λ (p : Peer). p.domain) (emit_peer t s)
+
+pub emit_number : (t : Table) (s : StreamState) → (after_emit t s).number ≡ s.number
+emit_number t s = ap (λ (p : Peer). p.stream) (emit_peer t s)

@@ -13,8 +13,8 @@ use Rattle.iw_stream.specs.Stream as stream
 use Rattle.iw_stream.specs.Stream.{StreamState, delivery_of}
 use Rattle.iw_endpoint.specs.declared.refusal.CallRefusal.TheVariants.{Refused}
 use Rattle.iw_endpoint.specs.Numbers.{put_at}
-use Rattle.iw_endpoint.specs.Endpoint.{EndpointState, Pool, fresh, no_streams, no_closed, stream_numbers, stream_of, stream_at, unopened, closed_at, is_taken, has_stream, with_pool, with_stream, with_table, with_next, with_worked, next_in, refusal_at, rest_refusal, number_refusal, request_refusal, open_refusal, open_shared_refusal, open_shared_refusal_of, next_refusal, next_shared_refusal, domain_refusal, store_refusal, share_refusal, pool_refusal, take_refusal}
-use Rattle.iw_endpoint.specs.Isolation.{StreamCall, Accept, Reject, Post, PostRecv, FirstNumber, Deliver, Work, Emit, BreakLink, Close, SetMulpdu, Private, Told, PeerFirst, Sent, DueLen, InOrderPoint, Limits, Call, AddDomain, Register, Deregister, Invalidate, Store, Facts, Local, LocalMut, Open, Share, PostShared, TakeShared, OpenShared, OpenNext, OpenSharedNext, AtStream, after, after_stream, after_all, unless, if_there}
+use Rattle.iw_endpoint.specs.Endpoint.{EndpointState, Pool, fresh, no_streams, no_closed, stream_numbers, stream_of, stream_at, unopened, closed_at, is_taken, has_stream, with_pool, with_stream, with_table, with_next, with_worked, next_in, refusal_at, rest_refusal, limit_refusal, new_stream, new_shared, number_refusal, request_refusal, open_refusal, open_shared_refusal, open_shared_refusal_of, next_refusal, next_shared_refusal, domain_refusal, store_refusal, share_refusal, pool_refusal, take_refusal}
+use Rattle.iw_endpoint.specs.Isolation.{StreamCall, Accept, Reject, Post, PostRecv, FirstNumber, Deliver, Work, Emit, BreakLink, Close, SetMulpdu, Private, Told, PeerOptions, Standing, HasDue, RegisterFor, PeerFirst, Sent, DueLen, InOrderPoint, Limits, Call, AddDomain, Register, Deregister, Invalidate, Store, Facts, Local, LocalMut, Open, Share, PostShared, TakeShared, OpenShared, OpenNext, OpenSharedNext, AtStream, after, after_stream, after_all, unless, if_there}
 use Rattle.iw_endpoint.specs.Used.{IsGiven, AreGiven, NumbersAreUsedOnce}
 use Rattle.iw_endpoint.proofs.Filled.{IsPut, set_is, put_is, within}
 use Rattle.iw_endpoint.proofs.Steps.{closes, delivered, numbered, first_none, mapped_none, never, never_shared}
@@ -150,9 +150,13 @@ stream_uses e n Work all = changing_use (λ s. with_worked e n s) e n (λ s is. 
 stream_uses e n Emit all = changing_use (λ s. with_stream e n (stream.after_emit e.table s)) e n (λ s is. changed_use e n s (stream.after_emit e.table s) is)
 stream_uses e n BreakLink all = changing_use (λ s. with_stream e n (stream.breaks s)) e n (λ s is. changed_use e n s (stream.breaks s) is)
 stream_uses e n Close all = refusing_use rest_refusal (closes e n) e n (λ s is. uses_close e.streams e.closed n s.domain (within e.streams n s is) all)
+stream_uses e n (RegisterFor base octets rights) all = tables_use (limit_refusal e n base (length octets)) e _
 stream_uses e n (SetMulpdu size) all = refusing_use (λ s. stream.size_refusal size) (λ s. with_stream e n (stream.with_mulpdu s size)) e n (λ s is. changed_use e n s (stream.with_mulpdu s size) is)
 stream_uses e n Private all = uses_all e.streams e.closed
 stream_uses e n Told all = uses_all e.streams e.closed
+stream_uses e n PeerOptions all = uses_all e.streams e.closed
+stream_uses e n Standing all = uses_all e.streams e.closed
+stream_uses e n HasDue all = uses_all e.streams e.closed
 stream_uses e n PeerFirst all = uses_all e.streams e.closed
 stream_uses e n Sent all = uses_all e.streams e.closed
 stream_uses e n DueLen all = uses_all e.streams e.closed
@@ -206,11 +210,11 @@ nexts_use (Some r) e m x room last = uses_all e.streams e.closed
 
 next_uses : (e : EndpointState) (n : Option ℕ) (pd : ℕ) (role : Role) (config : Config) → 64 ≤ length e.streams → n ≡ next_in e.streams → UsesAt e (after e (OpenNext n pd role config))
 next_uses e None pd role config room given = refused_use (next_refusal e None pd role config) e _ (never e pd role config)
-next_uses e (Some m) pd role config room given = nexts_use (next_refusal e (Some m) pd role config) e m (stream.opened pd role config) room (next_is e.streams m given)
+next_uses e (Some m) pd role config room given = nexts_use (next_refusal e (Some m) pd role config) e m (new_stream m pd role config) room (next_is e.streams m given)
 
 next_shared_uses : (e : EndpointState) (n : Option ℕ) (pd : ℕ) (role : Role) (config : Config) → 64 ≤ length e.streams → n ≡ next_in e.streams → UsesAt e (after e (OpenSharedNext n pd role config))
 next_shared_uses e None pd role config room given = refused_use (next_shared_refusal e None pd role config) e _ (never_shared e pd role config)
-next_shared_uses e (Some m) pd role config room given = nexts_use (next_shared_refusal e (Some m) pd role config) e m (stream.opened_shared pd role config) room (next_is e.streams m given)
+next_shared_uses e (Some m) pd role config room given = nexts_use (next_shared_refusal e (Some m) pd role config) e m (new_shared m pd role config) room (next_is e.streams m given)
 
 step : (e : EndpointState) (call : Call) → 64 ≤ length e.streams → length e.closed ≡ 64 → IsGiven e call → UsesAt e (after e call)
 step e (AddDomain pd) room all given = tables_use (domain_refusal e pd) e _
@@ -221,12 +225,12 @@ step e (Store stag to octets) room all given = tables_use (store_refusal e stag 
 step e (Facts stag) room all given = uses_all e.streams e.closed
 step e (Local stag) room all given = uses_all e.streams e.closed
 step e (LocalMut stag octets) room all given = uses_all e.streams e.closed
-step e (Open n pd role config) room all given = opens_use (open_refusal e n pd role config) e n pd (stream.opened pd role config) room (first_none (number_refusal e n pd) (request_refusal role config))
+step e (Open n pd role config) room all given = opens_use (open_refusal e n pd role config) e n pd (new_stream n pd role config) room (first_none (number_refusal e n pd) (request_refusal role config))
 step e (Share pd) room all given = pools_use (share_refusal e pd) e pd _
 step e (PostShared pd buffer) room all given = pools_use (pool_refusal e pd) e pd _
 step e (TakeShared pd) room all given = pools_use (take_refusal e pd) e pd _
 step e (OpenShared n pd role config) room all given =
-    opens_use (open_shared_refusal e n pd role config) e n pd (stream.opened_shared pd role config) room
+    opens_use (open_shared_refusal e n pd role config) e n pd (new_shared n pd role config) room
     (λ none. mapped_none open_shared_refusal_of (number_refusal e n pd) (first_none (option_map open_shared_refusal_of (number_refusal e n pd)) _ none))
 step e (OpenNext n pd role config) room all given = next_uses e n pd role config room given
 step e (OpenSharedNext n pd role config) room all given = next_shared_uses e n pd role config room given

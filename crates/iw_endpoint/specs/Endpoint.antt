@@ -7,15 +7,16 @@ use Rattle.iw_memory.specs.declared.refusal.DomainRefusal.{DomainRefusal}
 use Rattle.iw_memory.specs.declared.refusal.StoreRefusal.{StoreRefusal}
 use Rattle.iw_memory.specs.declared.region.Facts.{Facts}
 use Rattle.iw_memory.specs.declared.rights.Rights.{Rights}
-use Rattle.iw_memory.specs.Region.{facts_of, new_region}
+use Rattle.iw_memory.specs.Region.{facts_of, new_region, bound_region}
 use Rattle.iw_memory.specs.Table as tables
-use Rattle.iw_memory.specs.Table.{Table, empty, is_added, region_at, register_refusal, next_stag, put}
+use Rattle.iw_memory.specs.Table.{Table, empty, is_added, region_at, register_refusal, next_stag, put, retired}
 use Rattle.iw_memory.specs.TableLending.{overwritten}
 use Rattle.iw_queues.specs.declared.request.Request.{Request}
 use Rattle.iw_ranges.specs.declared.Delivery.{Delivery}
 use Rattle.iw_startup.specs.declared.config.Agreed.{Agreed}
 use Rattle.iw_startup.specs.declared.config.Config.{Config}
 use Rattle.iw_startup.specs.declared.config.Establishment.TheVariants.{Plain}
+use Rattle.iw_startup.specs.declared.config.PeerOptions.{PeerOptions}
 use Rattle.iw_startup.specs.declared.enhanced.EnhancedData.{EnhancedData}
 use Rattle.iw_untagged.specs.declared.queue.BufferRefusal.{BufferRefusal}
 use Rattle.iw_untagged.specs.declared.queue.BufferRefusal.TheVariants as buffer_refusals
@@ -30,15 +31,18 @@ use Rattle.iw_stream.specs.declared.answer.RecvRefusal.{RecvRefusal}
 use Rattle.iw_stream.specs.declared.answer.Role.{Role}
 use Rattle.iw_stream.specs.declared.answer.Role.TheVariants.{Preset}
 use Rattle.iw_stream.specs.declared.answer.SizeRefusal.{SizeRefusal}
+use Rattle.iw_stream.specs.declared.answer.Standing.{Standing}
 use Rattle.iw_stream.specs.declared.answer.Step.{Step}
-use Rattle.iw_stream.specs.Starting.{exceeds_request, private_in, told_in, agreement_in}
+use Rattle.iw_stream.specs.Starting.{exceeds_request, private_in, told_in, options_in, agreement_in}
 use Rattle.iw_stream.specs.Stream as stream
-use Rattle.iw_stream.specs.Stream.{StreamState, sees, emission_of, emitted, delivery_of}
+use Rattle.iw_stream.specs.Stream.{StreamState, peer_of, numbered, ended, sees, standing_of, due, is_none_due, emission_of, emitted, delivery_of}
 use Rattle.iw_stream.specs.Work as work
 use Rattle.iw_stream.specs.Work.{is_at_rest, work_step, worked, worked_with, table_worked}
 use Rattle.iw_endpoint.specs.Numbers.{put_at}
 use Rattle.iw_endpoint.specs.declared.refusal.CallRefusal.{CallRefusal}
 use Rattle.iw_endpoint.specs.declared.refusal.CallRefusal.TheVariants.{NoSuchStream as NoStream, Refused}
+use Rattle.iw_endpoint.specs.declared.refusal.LimitRefusal.{LimitRefusal}
+use Rattle.iw_endpoint.specs.declared.refusal.LimitRefusal.TheVariants as limits
 use Rattle.iw_endpoint.specs.declared.refusal.NoSuchStream.{NoSuchStream}
 use Rattle.iw_endpoint.specs.declared.refusal.NotAtRest.{NotAtRest}
 use Rattle.iw_endpoint.specs.declared.refusal.OpenNextRefusal.{OpenNextRefusal}
@@ -56,7 +60,7 @@ use Rattle.iw_endpoint.specs.declared.refusal.TakeRefusal.TheVariants as take_re
 abbrev pub stream_numbers : ℕ
 stream_numbers = 64
 
--- those from 64 on are given by the endpoint: all are below this
+-- and the endpoint gives those from 64 on, which are below this
 abbrev pub all_numbers : ℕ
 all_numbers = 2 ^ 32
 
@@ -71,8 +75,8 @@ domain_numbers = 256
 pub record EndpointState : Type 0 where
   pub table : Table  -- its regions, by domain
   pub pools : List (Option Pool)  -- the pool that streams of a domain share, by domain
-  pub streams : List (Option StreamState)  -- its streams, by number: 0 to 63, and each number that it gave
-  pub closed : List (Option ℕ)  -- by number, 0 to 63: the domain of the stream that was closed under it
+  pub streams : List (Option StreamState)  -- its streams, by number: 0 to 63, and each number that it has given
+  pub closed : List (Option ℕ)  -- by number, 0 to 63: the domain of the stream that was closed
 
 -- no stream was opened
 unfoldable pub no_streams : List (Option StreamState)
@@ -110,7 +114,7 @@ stream_at e number = unwrap_or (stream_of e number) unopened
 abbrev pub with_stream : EndpointState → ℕ → StreamState → EndpointState
 with_stream e number s = record e { streams = slice_set e.streams number (Some s) }
 
--- the domain of the stream that was closed under this number, which the application picked
+-- the domain of the stream that was closed under this number, if the application picked it
 abbrev pub closed_at : EndpointState → ℕ → Option ℕ
 closed_at e number = slice_index_or e.closed number None
 
@@ -118,7 +122,7 @@ closed_at e number = slice_index_or e.closed number None
 abbrev pub is_taken : EndpointState → ℕ → Bool
 is_taken e number = has_stream e number || is_some (closed_at e number)
 
--- the number of the next stream that is opened without one: one past the last that was given
+-- the number that is given next: one past the last, as long as it has 32 bits
 abbrev pub next_in : List (Option StreamState) → Option ℕ
 next_in streams = if nat_lt (length streams) all_numbers then Some (length streams) else None
 
@@ -171,6 +175,20 @@ stored e stag to octets = with_table e (put e.table stag to octets)
 -- the owner has replaced the region's octets by these
 abbrev pub rewritten : EndpointState → Stag → List ℕ → EndpointState
 rewritten e stag octets = with_table e (overwritten e.table stag octets)
+
+-- ---- regions of one stream
+
+-- why nothing is registered for a stream, whatever it is
+abbrev pub running_refusal : EndpointState → ℕ → Option (CallRefusal LimitRefusal)
+running_refusal e number = refusal_at (stream_of e number) (λ s. if ended s then Some limits.Ended else None)
+
+-- the refusals of its domain come after those
+abbrev pub limit_refusal : EndpointState → ℕ → ℕ → ℕ → Option (CallRefusal LimitRefusal)
+limit_refusal e number base len =
+    option_or (running_refusal e number) (option_map (λ refusal. Refused (limits.Refused refusal)) (register_refusal e.table (stream_at e number).domain base len))
+
+abbrev pub limited : EndpointState → ℕ → ℕ → List ℕ → Rights → EndpointState
+limited e number base octets rights = with_table e (tables.registered e.table (stream_at e number).domain (bound_region number base octets rights))
 
 -- ---- pools
 
@@ -242,8 +260,15 @@ request_refusal role config = if exceeds_request role config then Some PrivateTo
 abbrev pub open_refusal : EndpointState → ℕ → ℕ → Role → Config → Option OpenRefusal
 open_refusal e number pd role config = option_or (number_refusal e number pd) (request_refusal role config)
 
+-- a stream knows the number that it is opened under
+abbrev pub new_stream : ℕ → ℕ → Role → Config → StreamState
+new_stream number pd role config = numbered (stream.opened pd role config) number
+
+abbrev pub new_shared : ℕ → ℕ → Role → Config → StreamState
+new_shared number pd role config = numbered (stream.opened_shared pd role config) number
+
 abbrev pub opened : EndpointState → ℕ → ℕ → Role → Config → EndpointState
-opened e number pd role config = with_stream e number (stream.opened pd role config)
+opened e number pd role config = with_stream e number (new_stream number pd role config)
 
 -- for a stream that shares the domain's pool
 abbrev pub open_shared_refusal_of : OpenRefusal → OpenSharedRefusal
@@ -264,11 +289,11 @@ open_shared_refusal e number pd role config =
     (option_or (unshared (pool_of e pd)) (option_map open_shared_refusal_of (request_refusal role config)))
 
 abbrev pub opened_shared : EndpointState → ℕ → ℕ → Role → Config → EndpointState
-opened_shared e number pd role config = with_stream e number (stream.opened_shared pd role config)
+opened_shared e number pd role config = with_stream e number (new_shared number pd role config)
 
--- ---- openings without a number
+-- ---- openings under the next number
 
--- why no stream is opened under the number that is given, if one is left; a stream that shares a pool also needs that
+-- why no stream is opened under the next number, which is this, if one is left
 abbrev pub next_refusal : EndpointState → Option ℕ → ℕ → Role → Config → Option OpenNextRefusal
 next_refusal e number pd role config =
     if not (is_added e.table pd) then Some next_refusals.NoDomain
@@ -276,20 +301,22 @@ next_refusal e number pd role config =
     else if exceeds_request role config then Some next_refusals.PrivateTooLong
     else None
 
+-- for a stream that shares the domain's pool
 abbrev pub next_shared_refusal : EndpointState → Option ℕ → ℕ → Role → Config → Option OpenNextRefusal
 next_shared_refusal e number pd role config =
     if not (is_added e.table pd) then Some next_refusals.NoDomain
     else if is_none (pool_of e pd) then Some next_refusals.NotShared
     else next_refusal e number pd role config
 
+-- this stream stands under this number, which had none before
 abbrev pub with_next : EndpointState → ℕ → StreamState → EndpointState
 with_next e number s = record e { streams = put_at e.streams number s }
 
 abbrev pub opened_next : EndpointState → Option ℕ → ℕ → Role → Config → EndpointState
-opened_next e number pd role config = with_next e (unwrap_or number 0) (stream.opened pd role config)
+opened_next e number pd role config = with_next e (unwrap_or number 0) (new_stream (unwrap_or number 0) pd role config)
 
 abbrev pub opened_shared_next : EndpointState → Option ℕ → ℕ → Role → Config → EndpointState
-opened_shared_next e number pd role config = with_next e (unwrap_or number 0) (stream.opened_shared pd role config)
+opened_shared_next e number pd role config = with_next e (unwrap_or number 0) (new_shared (unwrap_or number 0) pd role config)
 
 -- ---- start-up
 
@@ -391,9 +418,10 @@ rest_refusal s = if is_at_rest s then None else Some (record {})
 abbrev pub close_refusal : EndpointState → ℕ → Option (CallRefusal NotAtRest)
 close_refusal e number = refusal_at (stream_of e number) rest_refusal
 
--- its stream is forgotten; of a number that the application picked, the domain is kept
+-- the stream is forgotten; if the application picked its number, its domain is kept; the regions that are limited to it are out of use
 abbrev pub after_close : EndpointState → ℕ → EndpointState
 after_close e number = record e {
+  table = retired e.table (peer_of (stream_at e number));
   streams = slice_set e.streams number None;
   closed = slice_set e.closed number (Some (stream_at e number).domain);
 }
@@ -414,6 +442,18 @@ private_at e number = private_in (stream_at e number).start
 -- what the peer told in its start-up frame by the word of IRD and ORD
 abbrev pub told_at : EndpointState → ℕ → Option EnhancedData
 told_at e number = told_in (stream_at e number).start
+
+-- what the peer asks for in it
+abbrev pub options_at : EndpointState → ℕ → Option PeerOptions
+options_at e number = options_in (stream_at e number).start
+
+-- starting, open or ended
+abbrev pub standing_at : EndpointState → ℕ → Standing
+standing_at e number = standing_of (stream_at e number)
+
+-- something is to be emitted next, or the peer may not read what is
+abbrev pub has_due : EndpointState → ℕ → Bool
+has_due e number = not (is_none_due (due (stream_at e number)))
 
 -- how many octets it emitted; 0 if there is no stream
 abbrev pub sent_at : EndpointState → ℕ → ℕ

@@ -15,6 +15,7 @@ use Rattle.iw_queues.specs.declared.request.Request.{Request}
 use Rattle.iw_ranges.specs.declared.Delivery.{Delivery}
 use Rattle.iw_startup.specs.declared.config.Agreed.{Agreed}
 use Rattle.iw_startup.specs.declared.config.Config.{Config}
+use Rattle.iw_startup.specs.declared.config.PeerOptions as options
 use Rattle.iw_startup.specs.declared.enhanced.EnhancedData.{EnhancedData}
 use Rattle.iw_stream.specs.declared.answer.AnswerRefusal.{AnswerRefusal}
 use Rattle.iw_stream.specs.declared.answer.FirstRefusal.{FirstRefusal}
@@ -24,9 +25,11 @@ use Rattle.iw_stream.specs.declared.answer.PostRefusal.{PostRefusal}
 use Rattle.iw_stream.specs.declared.answer.RecvRefusal.{RecvRefusal}
 use Rattle.iw_stream.specs.declared.answer.Role.{Role}
 use Rattle.iw_stream.specs.declared.answer.SizeRefusal.{SizeRefusal}
+use Rattle.iw_stream.specs.declared.answer.Standing as standing
 use Rattle.iw_stream.specs.declared.answer.Step.{Step}
 use Rattle.iw_stream.specs.Stream.{StreamState}
 use Rattle.iw_endpoint.specs.declared.refusal.CallRefusal.{CallRefusal}
+use Rattle.iw_endpoint.specs.declared.refusal.LimitRefusal.{LimitRefusal}
 use Rattle.iw_endpoint.specs.declared.refusal.NoSuchStream.{NoSuchStream}
 use Rattle.iw_endpoint.specs.declared.refusal.NotAtRest.{NotAtRest}
 use Rattle.iw_endpoint.specs.declared.refusal.OpenNextRefusal.{OpenNextRefusal}
@@ -35,7 +38,7 @@ use Rattle.iw_endpoint.specs.declared.refusal.PoolRefusal.{PoolRefusal}
 use Rattle.iw_endpoint.specs.declared.refusal.ShareRefusal.{ShareRefusal}
 use Rattle.iw_endpoint.specs.declared.refusal.TakeRefusal.{TakeRefusal}
 use Rattle.iw_endpoint.specs.Numbers.{filled, trimmed}
-use Rattle.iw_endpoint.specs.Endpoint.{EndpointState, HasNumbers, Pool, closed_at, next_refusal, next_shared_refusal, opened_next, opened_shared_next, close_refusal, after_close, stream_numbers, domain_numbers, no_pools, fresh, pool_of, share_refusal, shared, pool_refusal, pooled, take_refusal, taken_at, after_take, open_shared_refusal, opened_shared, stream_of, answer_at, domain_refusal, added, registered, octets_of, deregistered, invalidated, facts_at, store_refusal, stored, rewritten, open_refusal, opened, answer_refusal, agreement, accepted, rejected, post_refusal, with_request, recv_refusal, with_buffer, delivery_at, after_deliver, emission_at, emitted_at, after_emit, step_at, after_work, broken, size_refusal, with_mulpdu, private_at, told_at, sent_at, point_at, first_refusal, with_first, first_at}
+use Rattle.iw_endpoint.specs.Endpoint.{EndpointState, HasNumbers, Pool, closed_at, next_refusal, next_shared_refusal, opened_next, opened_shared_next, close_refusal, after_close, stream_numbers, domain_numbers, no_pools, fresh, pool_of, share_refusal, shared, pool_refusal, pooled, take_refusal, taken_at, after_take, open_shared_refusal, opened_shared, stream_of, stream_at, limit_refusal, limited, answer_at, domain_refusal, added, registered, octets_of, deregistered, invalidated, facts_at, store_refusal, stored, rewritten, open_refusal, opened, answer_refusal, agreement, accepted, rejected, post_refusal, with_request, recv_refusal, with_buffer, delivery_at, after_deliver, emission_at, emitted_at, after_emit, step_at, after_work, broken, size_refusal, with_mulpdu, private_at, told_at, options_at, standing_at, has_due, sent_at, point_at, first_refusal, with_first, first_at}
 
 -- ---- calls, as values
 
@@ -51,9 +54,13 @@ pub data StreamCall : Type 0 where
   Emit : StreamCall
   BreakLink : StreamCall
   Close : StreamCall
+  RegisterFor : ℕ → List ℕ → Rights → StreamCall
   SetMulpdu : ℕ → StreamCall
   Private : StreamCall
   Told : StreamCall
+  PeerOptions : StreamCall
+  Standing : StreamCall
+  HasDue : StreamCall
   PeerFirst : StreamCall
   Sent : StreamCall
   DueLen : StreamCall
@@ -92,8 +99,12 @@ pub data StreamAnswer : Type 0 where
   Broke : Result (Unit {0}) NoSuchStream → StreamAnswer
   Closed : Option (CallRefusal NotAtRest) → StreamAnswer
   Sized : Option (CallRefusal SizeRefusal) → StreamAnswer
+  Bound : Result Stag (CallRefusal LimitRefusal) → StreamAnswer
   Shown : Result (List ℕ) NoSuchStream → StreamAnswer
   Declared : Result (Option EnhancedData) NoSuchStream → StreamAnswer
+  Wanted : Result (Option options.PeerOptions) NoSuchStream → StreamAnswer
+  Stood : Result standing.Standing NoSuchStream → StreamAnswer
+  Due : Result Bool NoSuchStream → StreamAnswer
   Counted : Result ℕ NoSuchStream → StreamAnswer
   Limited : Result (Unit {0}) NoSuchStream → StreamAnswer
 
@@ -137,9 +148,13 @@ stream_answer e n Work = Worked (step_at e n)
 stream_answer e n Emit = Emitted (answer_at (stream_of e n) (λ s. emission_at e n)) (answer_at (stream_of e n) (λ s. emitted_at e n))
 stream_answer e n BreakLink = Broke (answer_at (stream_of e n) (λ s. tt))
 stream_answer e n Close = Closed (close_refusal e n)
+stream_answer e n (RegisterFor base octets rights) = Bound (answer_or (limit_refusal e n base (length octets)) (next_stag e.table (stream_at e n).domain))
 stream_answer e n (SetMulpdu size) = Sized (size_refusal e n size)
 stream_answer e n Private = Shown (answer_at (stream_of e n) (λ s. private_at e n))
 stream_answer e n Told = Declared (answer_at (stream_of e n) (λ s. told_at e n))
+stream_answer e n PeerOptions = Wanted (answer_at (stream_of e n) (λ s. options_at e n))
+stream_answer e n Standing = Stood (answer_at (stream_of e n) (λ s. standing_at e n))
+stream_answer e n HasDue = Due (answer_at (stream_of e n) (λ s. has_due e n))
 stream_answer e n PeerFirst = Counted (answer_at (stream_of e n) (λ s. first_at e n))
 stream_answer e n Sent = Counted (answer_at (stream_of e n) (λ s. sent_at e n))
 stream_answer e n DueLen = Counted (answer_at (stream_of e n) (λ s. length (emitted_at e n)))
@@ -177,9 +192,13 @@ after_stream e n Work = if_there (stream_of e n) e (after_work e n)
 after_stream e n Emit = if_there (stream_of e n) e (after_emit e n)
 after_stream e n BreakLink = if_there (stream_of e n) e (broken e n)
 after_stream e n Close = unless (close_refusal e n) e (after_close e n)
+after_stream e n (RegisterFor base octets rights) = unless (limit_refusal e n base (length octets)) e (limited e n base octets rights)
 after_stream e n (SetMulpdu size) = unless (size_refusal e n size) e (with_mulpdu e n size)
 after_stream e n Private = e
 after_stream e n Told = e
+after_stream e n PeerOptions = e
+after_stream e n Standing = e
+after_stream e n HasDue = e
 after_stream e n PeerFirst = e
 after_stream e n Sent = e
 after_stream e n DueLen = e

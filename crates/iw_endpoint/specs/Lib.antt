@@ -6,3 +6,4 @@ pub mod Places
 pub mod Isolation
 pub mod Reading
 pub mod Used
+pub mod Limited

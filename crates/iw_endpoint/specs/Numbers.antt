@@ -2,7 +2,7 @@
 use Rattle.std.specs.Prelude.{ℕ, zero, suc, ◌-◌, List, [], ◌∷◌, ◌++◌, length, replicate, Option, None, Some}
 
 module _ {X : Type 0} where
-  -- at least n places: nothing stands past the last
+  -- with at least n places: nothing stands at those that are added
   abbrev pub filled : ℕ → List (Option X) → List (Option X)
   filled n xs = xs ++ replicate (n - length xs) None
 
@@ -13,6 +13,7 @@ module _ {X : Type 0} where
   put_at (y ∷ ys) zero x = Some x ∷ ys
   put_at (y ∷ ys) (suc n) x = y ∷ put_at ys n x
 
+  -- o in front, unless nothing stands there nor behind
   abbrev pub in_front : Option X → List (Option X) → List (Option X)
   in_front None [] = []
   in_front (Some x) [] = Some x ∷ []

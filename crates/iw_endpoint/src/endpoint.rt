@@ -15,12 +15,15 @@ ghost use Rattle.iw_stream.specs.Work.{IsTry, task};
 ghost use Rattle.iw_endpoint.specs.Endpoint.{pool_refusal_of};
 
 mod closing;
+mod lending;
+mod limiting;
 mod next;
 mod opening;
 
 use crate::closed::Closed;
 use crate::pools::Pools;
 use crate::refusal::{CallRefusal, NoSuchStream, PoolRefusal, ShareRefusal, TakeRefusal};
+use crate::scrap::Scrap;
 use crate::streams::Streams;
 use bytes::Bytes;
 use iw_memory::{
@@ -28,10 +31,10 @@ use iw_memory::{
 };
 use iw_octets::Octets;
 use iw_stream::{
-    Agreed, AnswerRefusal, Delivery, Emission, EnhancedData, FirstRefusal, Intake, PostRefusal,
-    PrivateData, RecvRefusal, Request, SizeRefusal, Step,
+    Agreed, AnswerRefusal, Delivery, Emission, EnhancedData, FirstRefusal, Intake, PeerOptions,
+    PostRefusal, PrivateData, RecvRefusal, Request, SizeRefusal, Standing, Step,
 };
-use iw_untagged::{BufferRefusal, SharedQueue};
+use iw_untagged::BufferRefusal;
 use std::alloc::{AllocError, Allocator, Global};
 use std::io::{self, Read};
 use std::marker::Model;
@@ -44,6 +47,8 @@ pub struct Endpoint<A: Allocator = Global> {
     pools: Pools<A>,
     streams: Streams<A>,
     closed: Closed,
+    // What is lent for streams that have ended.
+    scrap: Scrap<A>,
 }
 
 impl<A: Allocator> Model for Endpoint<A> {
@@ -69,26 +74,27 @@ impl<A: Allocator> Endpoint<A> {
     ghost use Rattle.iw_endpoint.specs.Endpoint.{invalidated, facts_at, store_refusal, stored};
     ghost use Rattle.iw_endpoint.specs.Endpoint.{share_refusal, shared, pool_refusal, pooled, take_refusal, taken_at, after_take};
     ghost use Rattle.iw_endpoint.specs.Endpoint.{pool_of, lent_to, answer_refusal, agreement, accepted};
-    ghost use Rattle.iw_endpoint.specs.Endpoint.{rejected, private_at, told_at, size_refusal, with_mulpdu};
+    ghost use Rattle.iw_endpoint.specs.Endpoint.{rejected, private_at, told_at, options_at, standing_at, size_refusal, with_mulpdu};
     ghost use Rattle.iw_endpoint.specs.Endpoint.{post_refusal, with_request, recv_refusal, with_buffer};
     ghost use Rattle.iw_endpoint.specs.Endpoint.{first_refusal, with_first, first_at};
     ghost use Rattle.iw_endpoint.specs.Endpoint.{delivery_at, after_deliver, step_at, after_work, point_at};
-    ghost use Rattle.iw_endpoint.specs.Endpoint.{emission_at, emitted_at, after_emit, sent_at};
+    ghost use Rattle.iw_endpoint.specs.Endpoint.{emission_at, emitted_at, after_emit, has_due, sent_at};
     ghost use Rattle.iw_endpoint.specs.Reading.{IsRead};
     ghost use Rattle.iw_endpoint.specs.Lending.{LendsLocal};
 
-    /// An endpoint with no domain and no stream. An `Err` means out of memory.
-    pub fn new(alloc: A) -> Result<Endpoint<A>, AllocError>
+    /// An endpoint with no domain and no stream. It takes no memory.
+    pub fn new(alloc: A) -> Endpoint<A>
     where
         A: Copy,
-        ensures { IfOk result (λ endpoint. endpoint ≡ fresh) }
+        ensures { result ≡ fresh }
     {
-        Ok(Endpoint {
-            memory: Memory::new(alloc)?,
-            pools: Pools::new(alloc)?,
+        Endpoint {
+            memory: Memory::new(alloc),
+            pools: Pools::new(alloc),
             streams: Streams::new(alloc),
             closed: Closed::new(),
-        })
+            scrap: Scrap::new(alloc),
+        }
     }
 
     /// The registered regions, read-only.
@@ -98,12 +104,14 @@ impl<A: Allocator> Endpoint<A> {
         &self.memory
     }
 
-    /// Adds a protection domain with no region and no stream. `pd` must be 1 to 255. It allocates nothing. An `Err`
-    /// changes nothing.
+    /// Adds a protection domain with no region and no stream. `pd` must be 1 to 255. An `Err` changes nothing; `NoMemory`
+    /// comes only if no other refusal applies.
     pub fn add_domain(&mut self, pd: u8) -> Result<(), DomainRefusal>
     where
         A: Copy,
-        ensures refused { result_err result ≡ domain_refusal self.old pd }
+        // The first refusal that applies; if none does, only `NoMemory`.
+        ensures refused { IfSome (domain_refusal self.old pd) (λ refusal. IfErr result (λ e. e ≡ refusal) × IsErr result) }
+        ensures memory { IfNone (domain_refusal self.old pd) (IfErr result (λ e. e ≡ DomainRefusal.NoMemory)) }
         ensures ok { OnOk result (self.new ≡ added self.old pd) }
         ensures err { OnErr result (self.new ≡ self.old) }
     {
@@ -201,11 +209,8 @@ impl<A: Allocator> Endpoint<A> {
         if self.pools.get(pd).is_some() {
             return Err(ShareRefusal::AlreadyShared);
         }
-        match SharedQueue::new(self.pools.allocator()) {
-            Ok(pool) => {
-                self.pools.put(pd, pool);
-                Ok(())
-            }
+        match self.pools.give(pd) {
+            Ok(()) => Ok(()),
             Err(_) => Err(ShareRefusal::NoMemory),
         }
     }
@@ -543,6 +548,40 @@ impl<A: Allocator> Endpoint<A> {
     {
         match self.streams.get(number) {
             Some(stream) => Ok(stream.told()),
+            None => Err(NoSuchStream),
+        }
+    }
+
+    /// What the peer asks for in its start-up frame at a stream, once that was read: at [`Step::Asked`], and from
+    /// [`Step::Opened`] on. `None` if it has not been read, and at a preset stream.
+    pub fn peer_options(&self, number: u32) -> Result<Option<PeerOptions>, NoSuchStream>
+        ensures stream { is_ok result ≡ has_stream self.now number }
+        ensures options { IfOk result (λ options. options ≡ options_at self.now number) }
+    {
+        match self.streams.get(number) {
+            Some(stream) => Ok(stream.peer_options()),
+            None => Err(NoSuchStream),
+        }
+    }
+
+    /// Whether a stream is starting, is open or has ended.
+    pub fn standing(&self, number: u32) -> Result<Standing, NoSuchStream>
+        ensures stream { is_ok result ≡ has_stream self.now number }
+        ensures standing { IfOk result (λ standing. standing ≡ standing_at self.now number) }
+    {
+        match self.streams.get(number) {
+            Some(stream) => Ok(stream.standing()),
+            None => Err(NoSuchStream),
+        }
+    }
+
+    /// Whether the next call of [`Endpoint::emit`] answers anything but [`Emission::Nothing`], unless it runs out of memory.
+    pub fn has_due(&self, number: u32) -> Result<bool, NoSuchStream>
+        ensures stream { is_ok result ≡ has_stream self.now number }
+        ensures due { IfOk result (λ due. due ≡ has_due self.now number) }
+    {
+        match self.streams.get(number) {
+            Some(stream) => Ok(stream.has_due()),
             None => Err(NoSuchStream),
         }
     }

@@ -1,4 +1,5 @@
 ghost use Rattle.iw_endpoint.specs.Isolation.{CallsConcernOneDomain, DomainsAreAlone};
+ghost use Rattle.iw_endpoint.specs.Limited.{LimitedRegionsAreApart, StreamsKnowTheirNumbers};
 ghost use Rattle.iw_endpoint.specs.Used.{NumbersAreUsedOnce};
 
 /// What a call answers, and how it changes the domain that it concerns, depend only on that domain's part of the
@@ -20,4 +21,16 @@ pub fn domains_are_alone()
 /// `open_next` or `open_shared_next` has the number that the endpoint gives.
 pub fn numbers_are_used_once()
     ensures { NumbersAreUsedOnce }
+{}
+
+/// A call on a stream leaves each region that is limited to another stream as it was, and neither what the call answers
+/// nor the octets that it emits depend on that region's octets. It holds if each stream has the number that it was opened
+/// under, as it does at each endpoint ([`streams_know_their_numbers`]).
+pub fn limited_regions_are_apart()
+    ensures { LimitedRegionsAreApart }
+{}
+
+/// After any list of calls to a new endpoint, each stream has the number that it was opened under.
+pub fn streams_know_their_numbers()
+    ensures { StreamsKnowTheirNumbers }
 {}

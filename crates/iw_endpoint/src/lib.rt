@@ -11,10 +11,11 @@
 //!    `take_shared`);
 //! 3. when the socket is writable, calls `emit` until it answers [`Emission::Nothing`], and writes out what was
 //!    appended;
-//! 4. when the socket is readable, reads from it right to where the octets are to stand (`read_from`), or hands in octets
-//!    that came apart from a socket's order with their sequence number (`deliver`), then calls `work` until it answers
-//!    [`Step::Idle`]. Each call does one step and returns what it did. After [`Step::Asked`] the application calls
-//!    `accept` or `reject`, then `work` again. Afterwards there may be more to emit.
+//! 4. when the socket is readable, reads from it right to where the octets are to stand (`read_from`; with a call of its
+//!    own, as C does, `lend_place` and `came`), or hands in octets that came apart from a socket's order with their sequence
+//!    number (`deliver`), then calls `work` until it answers [`Step::Idle`]. Each call does one step and returns what it did.
+//!    After [`Step::Asked`] the application calls `accept` or `reject`, then `work` again. Afterwards there may be more to
+//!    emit.
 //!
 //! A stream ends by a fault, by the peer's Terminate, in its start-up, or when the application reports a broken link
 //! (`break_link`), for example because the connection closed. `emit` still appends the Terminate that a fault makes
@@ -30,9 +31,12 @@
 //! does not depend on any other domain, but for the number that `open_next` gives, or that none is left
 //! ([`domains_are_alone`]).
 //!
-//! `new`, `register`, `share`, `post_shared`, `open`, `open_shared`, `open_next`, `open_shared_next`, `post`, `post_recv`,
-//! `deliver`, `read_from` and `emit` can run out of memory; so can `work`, when it judges a frame before its turn. Then
-//! nothing has changed, what was handed in is given back, and the call may be made again. No other call allocates.
+//! A region is open to all streams of its domain, within its rights, or to one stream alone (`register_for`). No call on
+//! another stream changes or emits an octet of it ([`limited_regions_are_apart`]).
+//!
+//! `add_domain`, `register`, `register_for`, `share`, `post_shared`, `open`, `open_shared`, `open_next`, `open_shared_next`, `post`, `post_recv`,
+//! `deliver`, `read_from`, `lend_place` and `emit` can run out of memory; so can `work`, when it judges a frame before its
+//! turn. Then nothing has changed, what was handed in is given back, and the call may be made again. No other call allocates.
 //!
 //! # Example
 //!
@@ -41,7 +45,7 @@
 //! writable.
 //!
 //! ```text
-//! let mut endpoint = Endpoint::new(alloc)?;
+//! let mut endpoint = Endpoint::new(alloc);
 //! if let Err(refusal) = endpoint.add_domain(DOMAIN) {
 //!     bail!("add_domain: {refusal:?}");
 //! }
@@ -86,6 +90,7 @@ mod endpoint;
 mod laws;
 mod pools;
 mod refusal;
+mod scrap;
 mod streams;
 
 pub use endpoint::Endpoint;
@@ -96,11 +101,15 @@ pub use iw_octets::{Fault, MAX_PLACE, MAX_PRIVATE, Message, Octets, ReadRequest}
 pub use iw_stream::{
     Agreed, AnswerRefusal, Config, Delivery, Emission, EnhancedData, Establishment, FirstRefusal,
     INSUFFICIENT_IRD, Intake, Kind, MAX_ENHANCED_PRIVATE, MOST_READ, NO_MATCHING_RTR, OpenRefusal,
-    PostRefusal, PrivateData, RecvRefusal, Request, Role, SizeRefusal, StartupFault, Step,
+    PeerOptions, PostRefusal, PrivateData, RecvRefusal, Request, Role, SizeRefusal, Standing,
+    StartupFault, Step,
 };
-pub use laws::{calls_concern_one_domain, domains_are_alone, numbers_are_used_once};
+pub use laws::{
+    calls_concern_one_domain, domains_are_alone, limited_regions_are_apart, numbers_are_used_once,
+    streams_know_their_numbers,
+};
 pub use refusal::{
-    CallRefusal, NoSuchStream, NotAtRest, OpenNextRefusal, OpenSharedRefusal, PoolRefusal,
-    ShareRefusal, TakeRefusal,
+    CallRefusal, LimitRefusal, NoSuchStream, NotAtRest, OpenNextRefusal, OpenSharedRefusal,
+    PlaceRefusal, PoolRefusal, ShareRefusal, TakeRefusal,
 };
 pub use streams::STREAM_NUMBERS;

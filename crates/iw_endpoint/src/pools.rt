@@ -1,6 +1,8 @@
-ghost use Rattle.std.specs.Prelude.{◌≡◌, ◌+◌, ◌≤◌, ◌^◌, slice_index_or, slice_set, IfOk, OnOk, OnErr, None, Some};
+ghost use Rattle.std.specs.Prelude.{◌≡◌, ◌+◌, ◌<◌, ◌≤◌, ◌^◌, [], length, slice_index_or, slice_set, IfOk, OnOk, OnErr, None, Some};
 ghost use Rattle.std.specs.Option.{option_copied, option_copied_mut};
 ghost use Rattle.std.specs.Borrow.{sem};
+ghost use Rattle.iw_endpoint.specs.Endpoint.{domain_numbers};
+ghost use Rattle.iw_endpoint.specs.Numbers.{filled};
 ghost use Rattle.iw_stream.specs.Kept.{IsWithinBuffer};
 ghost use Rattle.iw_stream.specs.Work.{IsTry, task, work_step, table_worked};
 
@@ -11,49 +13,52 @@ use iw_untagged::SharedQueue;
 use std::alloc::{AllocError, Allocator, Global};
 use std::marker::Model;
 
-// How many domains there may be.
-const DOMAINS: usize = 256;
-
-/// The pools of receive buffers, by domain: a place for each domain, `None` until the domain has a pool.
+/// The pools of receive buffers, by domain. Memory is taken when a domain is given one.
 #[derive(Drop)]
 pub(crate) struct Pools<A: Allocator = Global> {
+    // By domain, up to the last that was given a pool.
     places: Vec<Option<SharedQueue<A>>, A>,
 }
 
 impl<A: Allocator> Model for Pools<A> {
-    ghost use Rattle.std.specs.Prelude.{◌≡◌, List, Option, length};
-    ghost use Rattle.iw_endpoint.specs.Endpoint.{Pool};
+    ghost use Rattle.std.specs.Prelude.{◌≤◌, List, Option, length};
+    ghost use Rattle.iw_endpoint.specs.Endpoint.{Pool, domain_numbers};
+    ghost use Rattle.iw_endpoint.specs.Numbers.{filled};
 
     ghost Value = { List (Option Pool) };
 
-    ghost view = { λ p. p.places.items };
+    ghost view = { λ p. filled domain_numbers p.places.items };
 
-    ghost invariant = { λ p. length p.places.items ≡ 256 };
+    ghost invariant = { λ p. length p.places.items ≤ domain_numbers };
+}
+
+// Makes places up to that of the domain. An `Err` means out of memory, and may leave some of them made.
+fn reach<A: Allocator>(
+    places: &mut Vec<Option<SharedQueue<A>>, A>,
+    pd: u8,
+) -> Result<(), AllocError>
+    requires { length places.old.items ≤ domain_numbers }
+    ensures same { filled domain_numbers places.new.items ≡ filled domain_numbers places.old.items }
+    ensures most { length places.new.items ≤ domain_numbers }
+    ensures reached { OnOk result (pd < length places.new.items) }
+{
+    for _i in places.len()..pd as usize + 1 {
+        places.push(None)?;
+    }
+    Ok(())
 }
 
 impl<A: Allocator> Pools<A> {
     ghost use Rattle.iw_endpoint.specs.Endpoint.{no_pools, lent_to, left_of, pool_left};
     ghost use Rattle.iw_endpoint.specs.Places.{LendsPool};
 
-    /// No domain has a pool. An `Err` means out of memory.
-    pub(crate) fn new(alloc: A) -> Result<Pools<A>, AllocError>
-    where
-        A: Copy,
-        ensures { IfOk result (λ pools. pools ≡ no_pools) }
+    /// No domain has a pool. It takes no memory.
+    pub(crate) fn new(alloc: A) -> Pools<A>
+        ensures { result ≡ no_pools }
     {
-        let mut places = Vec::with_capacity(alloc, DOMAINS)?;
-        for _i in 0..256usize {
-            places.push(None)?;
+        Pools {
+            places: Vec::new(alloc),
         }
-        Ok(Pools { places })
-    }
-
-    /// The allocator of all pools.
-    pub(crate) fn allocator(&self) -> A
-    where
-        A: Copy,
-    {
-        *self.places.allocator()
     }
 
     /// The domain's pool, if it has one.
@@ -71,11 +76,17 @@ impl<A: Allocator> Pools<A> {
         self.places.get_mut(pd as usize)?.as_mut()
     }
 
-    /// Sets the domain's pool.
-    pub(crate) fn put(&mut self, pd: u8, pool: SharedQueue<A>)
-        ensures { self.new ≡ slice_set self.old pd (Some pool) }
+    /// Gives the domain an empty pool, in place of any that it has. An `Err` means out of memory and changes nothing.
+    pub(crate) fn give(&mut self, pd: u8) -> Result<(), AllocError>
+    where
+        A: Copy,
+        ensures ok { OnOk result (self.new ≡ slice_set self.old pd (Some [])) }
+        ensures err { OnErr result (self.new ≡ self.old) }
     {
+        let pool = SharedQueue::new(*self.places.allocator())?;
+        reach(&mut self.places, pd)?;
         self.places[pd as usize] = Some(pool);
+        Ok(())
     }
 
     /// Does one step at a stream, with the pool of its domain, if there is one. An `Err` means out of memory and

@@ -1,3 +1,4 @@
+use iw_memory::RegisterRefusal;
 use std::fmt::Display;
 use thiserror::Error;
 
@@ -16,6 +17,28 @@ pub enum CallRefusal<R> {
     /// The stream refuses the call.
     #[error("{0}")]
     Refused(R),
+}
+
+/// Why octets are not registered for one stream: the first reason that holds.
+#[derive(Clone, Copy, Debug, PartialEq, Eq, Error)]
+pub enum LimitRefusal {
+    /// The stream has ended.
+    #[error("the stream has ended")]
+    Ended,
+    /// The stream's domain refuses them ([`Endpoint::register`](crate::Endpoint::register)).
+    #[error("{0}")]
+    Refused(RegisterRefusal),
+}
+
+/// Why no place is lent to read to.
+#[derive(Clone, Copy, Debug, PartialEq, Eq, Error)]
+pub enum PlaceRefusal {
+    /// The stream's window has no room: [`Endpoint::work`](crate::Endpoint::work) makes room.
+    #[error("the window has no room")]
+    Full,
+    /// Out of memory.
+    #[error("no memory")]
+    NoMemory,
 }
 
 /// The stream has not ended, or has something left to hand out or to emit.

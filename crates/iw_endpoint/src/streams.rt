@@ -156,27 +156,17 @@ impl<A: Allocator> Streams<A> {
         Some(self.places.get_mut(place)?.get_mut())
     }
 
-    /// Puts a stream under a number. An `Err` means out of memory and changes nothing.
+    /// Puts a stream under a number that an application picks, or under the next. An `Err` means out of memory and changes
+    /// nothing.
     pub(crate) fn put(&mut self, number: u32, stream: Stream<A>) -> Result<(), AllocError>
     where
         A: Copy,
-        requires { number < stream_numbers }
-        ensures ok { OnOk result (self.new ≡ slice_set self.old number (Some stream)) }
-        ensures err { OnErr result (self.new ≡ self.old) }
-    {
-        lay(&mut self.keys, &mut self.places, self.alloc, number, stream)
-    }
-
-    /// Puts a stream under the next number. An `Err` means out of memory and changes nothing.
-    pub(crate) fn push(&mut self, number: u32, stream: Stream<A>) -> Result<(), AllocError>
-    where
-        A: Copy,
-        requires { number ≡ length self.old }
+        requires { number ≤ length self.old }
         ensures ok { OnOk result (self.new ≡ put_at self.old number stream) }
         ensures err { OnErr result (self.new ≡ self.old) }
     {
         lay(&mut self.keys, &mut self.places, self.alloc, number, stream)?;
-        self.next = number as u64 + 1;
+        self.next = self.next.max(number as u64 + 1);
         Ok(())
     }
 

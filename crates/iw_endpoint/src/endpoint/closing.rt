@@ -1,8 +1,10 @@
 ghost use Rattle.std.specs.Prelude.{◌≡◌, is_ok, IfOk, OnOk, OnErr};
 ghost use Rattle.std.specs.Result.{result_err};
+ghost use Rattle.iw_stream.specs.Stream.{peer_of};
 
 use super::Endpoint;
 use crate::refusal::{CallRefusal, NoSuchStream, NotAtRest};
+use iw_memory::Peer;
 use std::alloc::Allocator;
 
 impl<A: Allocator> Endpoint<A> {
@@ -26,7 +28,7 @@ impl<A: Allocator> Endpoint<A> {
 
     /// Forgets a stream and frees its memory. The stream must be at rest: it has ended, and [`Endpoint::work`] and
     /// [`Endpoint::emit`] have nothing left to do. The number stays taken, and each later call on it answers
-    /// `NoSuchStream`.
+    /// `NoSuchStream`. The regions that were registered for this stream alone ([`Endpoint::register_for`]) become invalid.
     ///
     /// `NotAtRest`: the stream has not ended, has something left to hand back, or has a start-up frame or a Terminate
     /// left to emit; [`Endpoint::break_link`] drops such a frame. An `Err` changes nothing.
@@ -35,19 +37,20 @@ impl<A: Allocator> Endpoint<A> {
         ensures ok { OnOk result (self.new ≡ after_close self.old number) }
         ensures err { OnErr result (self.new ≡ self.old) }
     {
-        let pd = self.domain_at_rest(number)?;
+        let peer = self.peer_at_rest(number)?;
+        self.memory.retire(peer);
         self.streams.remove(number);
-        self.closed.keep(number, pd);
+        self.closed.keep(number, peer.domain);
         Ok(())
     }
 
-    // The domain of a stream that may be closed; else why it may not.
-    fn domain_at_rest(&self, number: u32) -> Result<u8, CallRefusal<NotAtRest>>
+    // The peer of a stream that may be closed; else why the stream may not.
+    fn peer_at_rest(&self, number: u32) -> Result<Peer, CallRefusal<NotAtRest>>
         ensures refused { result_err result ≡ close_refusal self.now number }
-        ensures domain { IfOk result (λ pd. pd ≡ (stream_at self.now number).domain) }
+        ensures peer { IfOk result (λ peer. peer ≡ peer_of (stream_at self.now number)) }
     {
         match self.streams.get(number) {
-            Some(stream) if stream.is_at_rest() => Ok(stream.domain()),
+            Some(stream) if stream.is_at_rest() => Ok(stream.peer()),
             Some(_) => Err(CallRefusal::Refused(NotAtRest)),
             None => Err(CallRefusal::NoSuchStream),
         }

@@ -1,11 +1,13 @@
-ghost use Rattle.std.specs.Prelude.{◌≡◌, ◌<◌, Some, None, IfSome, IfNone, IfErr, OnOk, OnErr};
-ghost use Rattle.iw_endpoint.specs.Endpoint.{stream_numbers, open_shared_refusal_of};
+ghost use Rattle.std.specs.Prelude.{◌≡◌, ◌<◌, ◌≤◌, false, length, Some, None, IfSome, IfNone, IfOk, IfErr, OnOk, OnErr};
+ghost use Rattle.iw_stream.specs.Stream.{StreamState, numbered};
+ghost use Rattle.iw_stream.specs.Starting.{exceeds_request};
+ghost use Rattle.iw_endpoint.specs.Endpoint.{open_shared_refusal_of};
 
 use super::Endpoint;
 use crate::refusal::OpenSharedRefusal;
 use crate::streams::STREAM_NUMBERS;
 use iw_stream::{Config, OpenRefusal, Role, Stream, exceeds_request};
-use std::alloc::Allocator;
+use std::alloc::{AllocError, Allocator};
 
 fn open_shared_refusal_of(refusal: OpenRefusal) -> OpenSharedRefusal
     ensures { result ≡ open_shared_refusal_of refusal }
@@ -20,13 +22,14 @@ fn open_shared_refusal_of(refusal: OpenRefusal) -> OpenSharedRefusal
 }
 
 impl<A: Allocator> Endpoint<A> {
-    ghost use Rattle.iw_endpoint.specs.Endpoint.{number_refusal, open_refusal, opened, open_shared_refusal, opened_shared};
+    ghost use Rattle.iw_endpoint.specs.Endpoint.{number_refusal, open_refusal, opened, open_shared_refusal, opened_shared, with_next};
 
     // Why no stream is opened under this number in this domain, whether or not it shares a pool.
-    fn refusal_to_open(&self, number: u32, pd: u8) -> Option<OpenRefusal>
+    fn number_refusal(&self, number: u32, pd: u8) -> Option<OpenRefusal>
         ensures refused { result ≡ number_refusal self.now number pd }
-        ensures within { IfNone result (number < stream_numbers) }
+        ensures within { IfNone result (number < length self.now.streams) }
     {
+        self.streams.limits();
         if number as usize >= STREAM_NUMBERS {
             Some(OpenRefusal::BadNumber)
         } else if self.streams.get(number).is_some() || self.closed.has(number) {
@@ -35,6 +38,46 @@ impl<A: Allocator> Endpoint<A> {
             Some(OpenRefusal::NoDomain)
         } else {
             None
+        }
+    }
+
+    // Puts a stream that was made under a number, which the stream then has. An `Err` means out of memory and changes nothing.
+    pub(super) fn put(
+        &mut self,
+        number: u32,
+        stream: Result<Stream<A>, AllocError>,
+    ) -> Result<(), AllocError>
+    where
+        A: Copy,
+        requires { number ≤ length self.old.streams }
+        ensures ok { (s : StreamState) → IfOk stream (λ made. made ≡ s) → OnOk result (self.new ≡ with_next self.old number (numbered s number)) }
+        ensures err { OnErr result (self.new ≡ self.old) }
+    {
+        match stream {
+            Ok(mut stream) => {
+                stream.set_number(number);
+                self.streams.put(number, stream)
+            }
+            Err(error) => Err(error),
+        }
+    }
+
+    /// Why [`Endpoint::open`] refuses to open this stream, if it does for another reason than `NoMemory`.
+    pub fn refusal_to_open(
+        &self,
+        number: u32,
+        pd: u8,
+        role: Role,
+        config: &Config,
+    ) -> Option<OpenRefusal>
+        ensures refused { result ≡ open_refusal self.now number pd role config.now }
+        ensures within { IfNone result (number < length self.now.streams) }
+        ensures fits { IfNone result (exceeds_request role config.now ≡ false) }
+    {
+        match self.number_refusal(number, pd) {
+            Some(refusal) => Some(refusal),
+            None if exceeds_request(role, config) => Some(OpenRefusal::PrivateTooLong),
+            None => None,
         }
     }
 
@@ -58,18 +101,33 @@ impl<A: Allocator> Endpoint<A> {
         ensures ok { OnOk result (self.new ≡ opened self.old number pd role config) }
         ensures err { OnErr result (self.new ≡ self.old) }
     {
-        if let Some(refusal) = self.refusal_to_open(number, pd) {
+        if let Some(refusal) = self.refusal_to_open(number, pd, role, &config) {
             return Err(refusal);
         }
-        if exceeds_request(role, &config) {
-            return Err(OpenRefusal::PrivateTooLong);
-        }
-        match Stream::new(self.streams.allocator(), pd, role, config) {
-            Ok(stream) => match self.streams.put(number, stream) {
-                Ok(()) => Ok(()),
-                Err(_) => Err(OpenRefusal::NoMemory),
-            },
+        let stream = Stream::new(self.streams.allocator(), pd, role, config);
+        match self.put(number, stream) {
+            Ok(()) => Ok(()),
             Err(_) => Err(OpenRefusal::NoMemory),
+        }
+    }
+
+    /// Why [`Endpoint::open_shared`] refuses to open this stream, if it does for another reason than `NoMemory`.
+    pub fn refusal_to_open_shared(
+        &self,
+        number: u32,
+        pd: u8,
+        role: Role,
+        config: &Config,
+    ) -> Option<OpenSharedRefusal>
+        ensures refused { result ≡ open_shared_refusal self.now number pd role config.now }
+        ensures within { IfNone result (number < length self.now.streams) }
+        ensures fits { IfNone result (exceeds_request role config.now ≡ false) }
+    {
+        match self.number_refusal(number, pd) {
+            Some(refusal) => Some(open_shared_refusal_of(refusal)),
+            None if self.pools.get(pd).is_none() => Some(OpenSharedRefusal::NotShared),
+            None if exceeds_request(role, config) => Some(OpenSharedRefusal::PrivateTooLong),
+            None => None,
         }
     }
 
@@ -90,20 +148,12 @@ impl<A: Allocator> Endpoint<A> {
         ensures ok { OnOk result (self.new ≡ opened_shared self.old number pd role config) }
         ensures err { OnErr result (self.new ≡ self.old) }
     {
-        if let Some(refusal) = self.refusal_to_open(number, pd) {
-            return Err(open_shared_refusal_of(refusal));
+        if let Some(refusal) = self.refusal_to_open_shared(number, pd, role, &config) {
+            return Err(refusal);
         }
-        if self.pools.get(pd).is_none() {
-            return Err(OpenSharedRefusal::NotShared);
-        }
-        if exceeds_request(role, &config) {
-            return Err(OpenSharedRefusal::PrivateTooLong);
-        }
-        match Stream::new_shared(self.streams.allocator(), pd, role, config) {
-            Ok(stream) => match self.streams.put(number, stream) {
-                Ok(()) => Ok(()),
-                Err(_) => Err(OpenSharedRefusal::NoMemory),
-            },
+        let stream = Stream::new_shared(self.streams.allocator(), pd, role, config);
+        match self.put(number, stream) {
+            Ok(()) => Ok(()),
             Err(_) => Err(OpenSharedRefusal::NoMemory),
         }
     }
