@@ -31,7 +31,6 @@
 //!     match take(&mut self.endpoint, STREAM, socket) {
 //!         Ok(Intake::Came(_) | Intake::Full) => self.act(rt),
 //!         Ok(Intake::End) => self.closed(rt),
-//!         Ok(Intake::Gap) => bail!("take: octets were delivered past a gap"),
 //!         Err(CallRefusal::Refused(error)) if is_for_later(error.kind()) => Ok(()),
 //!         Err(refusal) => bail!("take: {refusal:?}"),
 //!     }
