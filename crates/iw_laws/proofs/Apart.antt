@@ -26,7 +26,7 @@ use Rattle.iw_stream.specs.Frames.{Frame}
 use Rattle.iw_stream.specs.Judging.{verdict, early_verdict, table_tried, turn_of, fault_or}
 use Rattle.iw_startup.specs.declared.enhanced.Mismatch.{Mismatch}
 use Rattle.iw_stream.specs.Starting.{StartState, first_place_in, progress_in, heard, mismatch_in}
-use Rattle.iw_stream.specs.Stream.{StreamState, sees, Due, StartUp, LastWord, NextPart, NoneDue, Response as ResponseDue, due, frame_of, frame_fetched, emission_of, emitted, emission_due, octets_due, emission_fetched, octets_fetched, Ready}
+use Rattle.iw_stream.specs.Stream.{StreamState, sees, Due, StartUp, LastWord, NextPart, NoneDue, Response as ResponseDue, due, frame_of, frame_fetched, emission_of, emitted, emission_due, octets_due, emission_fetched, octets_fetched, Ready, peer_of}
 use Rattle.iw_stream.specs.Work.{Task, HandOut, GiveUp, GiveBack, Hear, Turn, Clash, Judge, Try, Rest, task, inbox, standing, step_of, table_left, table_judged, table_passed, judged_step, tried_step, turned_step, heard_step, opened_step, work_step, worked, table_worked}
 use Rattle.iw_startup.specs.declared.config.Config.{Config}
 use Rattle.iw_stream.specs.declared.answer.Role.TheVariants.{Preset}
@@ -63,12 +63,12 @@ octets_there d t u stag to n own h = elim own [
 
 module _ (s : StreamState) (t u : Table) (h : AreAlike s.domain t u) where
   fetched_shown : (part : ResponsePart) → shown_of t (emission_fetched s part (frame_fetched t s part)) (octets_fetched (frame_fetched t s part)) ≡ shown_of u (emission_fetched s part (frame_fetched u s part)) (octets_fetched (frame_fetched u s part))
-  fetched_shown part = go (fetch_fault t s.domain part) refl
+  fetched_shown part = go (fetch_fault t (peer_of s) part) refl
     where
       frame : Octets
       frame = frame_of s (Tagged part.head (fetched_octets t part))
 
-      go : (o : Option Fault) → fetch_fault t s.domain part ≡ o → shown_of t (emission_fetched s part (frame_fetched t s part)) (octets_fetched (frame_fetched t s part)) ≡ shown_of u (emission_fetched s part (frame_fetched u s part)) (octets_fetched (frame_fetched u s part))
+      go : (o : Option Fault) → fetch_fault t (peer_of s) part ≡ o → shown_of t (emission_fetched s part (frame_fetched t s part)) (octets_fetched (frame_fetched t s part)) ≡ shown_of u (emission_fetched s part (frame_fetched u s part)) (octets_fetched (frame_fetched u s part))
       go (Some fault) is =
           let here : frame_fetched t s part ≡ Err fault = ap (λ o. fault_or o frame) is in
           let there : frame_fetched u s part ≡ Err fault = sym (fetched-alike s t u part h) ∙ here in
@@ -77,7 +77,7 @@ module _ (s : StreamState) (t u : Table) (h : AreAlike s.domain t u) where
           let here : frame_fetched t s part ≡ Ok frame = ap (λ o. fault_or o frame) is in
           let there : frame_fetched u s part ≡ Ok frame = sym (fetched-alike s t u part h) ∙ here in
           ap (λ r. shown_of t (emission_fetched s part r) (octets_fetched r)) here
-          ∙ ap (λ z. Fetched s.sent frame part.stag part.to z) (octets-alike s.domain t u part.stag part.to part.n rights.Read (undenied _ source.denial_fault is) h)
+          ∙ ap (λ z. Fetched s.sent frame part.stag part.to z) (octets-alike (peer_of s) t u part.stag part.to part.n rights.Read (undenied _ source.denial_fault is) h)
           ∙ sym (ap (λ r. shown_of u (emission_fetched s part r) (octets_fetched r)) there)
 
   shown_alike : shown_of t (emission_of t s) (emitted t s) ≡ shown_of u (emission_of u s) (emitted u s)
@@ -96,14 +96,14 @@ module _ (s : StreamState) (t u : Table) (h : AreAlike s.domain t u) where
   placed_there frame left (Ok (landing.Write at)) lands = ap (λ z. seen.Placed rights.Write at.stag at.to z) (octets_there s.domain _ _ at.stag at.to at.n (lies lands) (judged-alike s.domain t u frame (Ok (landing.Write at)) h))
     where
       lies : LandsTagged (standing t s) frame 0 rights.Write at → (at.n ≡ 0) ⊎ (at.stag.domain ≡ s.domain)
-      lies l = elim (allows t s.domain l.head.stag l.head.to (length l.payload) rights.Write l.admitted) [
+      lies l = elim (allows t (peer_of s) l.head.stag l.head.to (length l.payload) rights.Write l.admitted) [
         | inl nothing ↦ inl (ap (λ p. p.n) l.place ∙ nothing)
         | inr allowed ↦ inr (ap (λ p. p.stag.domain) l.place ∙ allowed.0)
       ]
   placed_there frame left (Ok (landing.Response at)) lands = ap (λ z. seen.Placed rights.Sink at.stag at.to z) (octets_there s.domain _ _ at.stag at.to at.n (lies lands) (judged-alike s.domain t u frame (Ok (landing.Response at)) h))
     where
       lies : LandsTagged (standing t s) frame 2 rights.Sink at → (at.n ≡ 0) ⊎ (at.stag.domain ≡ s.domain)
-      lies l = elim (allows t s.domain l.head.stag l.head.to (length l.payload) rights.Sink l.admitted) [
+      lies l = elim (allows t (peer_of s) l.head.stag l.head.to (length l.payload) rights.Sink l.admitted) [
         | inl nothing ↦ inl (ap (λ p. p.n) l.place ∙ nothing)
         | inr allowed ↦ inr (ap (λ p. p.stag.domain) l.place ∙ allowed.0)
       ]

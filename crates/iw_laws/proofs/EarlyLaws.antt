@@ -142,7 +142,7 @@ early_seen over t s before (seen.Fault fault) i w = tt
 any_table : (s : Standing) (frame : PlacedFrame) (table : Table) → IsTagged (head_in frame) → turn_of s frame ≡ turn_of (record s { table = table }) frame
 any_table s frame table tagged = go (head_in frame) tagged
   where
-    go : (o : Option (Segment Octets)) → IsTagged o → segment_turn s.table s.domain s.receiving s.reads (payload_len frame) o ≡ segment_turn table s.domain s.receiving s.reads (payload_len frame) o
+    go : (o : Option (Segment Octets)) → IsTagged o → segment_turn s.table s.peer s.receiving s.reads (payload_len frame) o ≡ segment_turn table s.peer s.receiving s.reads (payload_len frame) o
     go None h = absurd h
     go (Some (Tagged head payload)) h = refl
     go (Some (Untagged head payload)) h = absurd h

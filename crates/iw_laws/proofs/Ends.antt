@@ -6,6 +6,7 @@ use Rattle.std.proofs.lemmas.Option.{none-some}
 use Rattle.std.proofs.lemmas.Bool.Decides.{nat_tests}
 use Rattle.std.proofs.lemmas.List.{append-nil, get_or-set_same, get_or-set_other, length-set}
 use Rattle.std.proofs.lemmas.Bool.{eq-eqb, false≢true, true≢false}
+use Rattle.iw_memory.specs.declared.peer.Peer.{Peer}
 use Rattle.iw_memory.specs.Table.{Table, is_added}
 use Rattle.iw_ranges.specs.declared.Delivery.TheVariants.{Kept, Dropped}
 use Rattle.iw_octets.specs.declared.fault.Fault.{Fault}
@@ -13,7 +14,7 @@ use Rattle.iw_reads.specs.declared.response.ResponsePart.{ResponsePart}
 use Rattle.iw_untagged.specs.Receiving.{Source, Posted, Pooled, exchanged, nothing_received, sharing, shares_pool, with_last}
 use Rattle.iw_stream.proofs.Sharing.{work_shares}
 use Rattle.iw_stream.specs.Work.{worked}
-use Rattle.iw_stream.specs.Stream.{StreamState, shares, sees, after_emit, left_fetched, left_due, frame_fetched, Due, StartUp, LastWord, Response as ResponseDue, NextPart, NoneDue, due, Ready, opened, opened_shared}
+use Rattle.iw_stream.specs.Stream.{StreamState, shares, sees, after_emit, left_fetched, left_due, frame_fetched, Due, StartUp, LastWord, Response as ResponseDue, NextPart, NoneDue, due, Ready, peer_of}
 use Rattle.iw_stream.specs.declared.answer.OpenRefusal.{OpenRefusal}
 use Rattle.iw_stream.specs.declared.answer.OpenRefusal.TheVariants.{NumberTaken, BadNumber, NoDomain}
 use Rattle.iw_events.specs.declared.act.Act.{Act}
@@ -22,13 +23,13 @@ use Rattle.iw_events.specs.declared.act.StreamAct.{StreamAct}
 use Rattle.iw_events.specs.declared.act.StreamAct.TheVariants.{Recv, Post, Emit, First, Deliver, Raw, Mulpdu, Accept, Reject, Work, Break}
 use Rattle.iw_startup.specs.declared.config.Config.{Config}
 use Rattle.iw_stream.specs.declared.answer.Role.{Role}
-use Rattle.iw_laws.specs.Words.{Octets, Opening, stream_acts, stream_acts_by, openings, openings_by, opening_in, opening_of, config_for, was_opened, domain_of, table_after, table_by}
+use Rattle.iw_laws.specs.Words.{Octets, Opening, stream_acts, stream_acts_by, openings, openings_by, opening_in, opening_of, config_for, was_opened, table_after, table_by, peer_at}
 use Rattle.iw_endpoint.specs.declared.refusal.OpenSharedRefusal.{OpenSharedRefusal}
 use Rattle.iw_endpoint.specs.Endpoint as endpoint
 use Rattle.iw_endpoint.specs.Endpoint.{EndpointState, pool_of, left_of, open_shared_refusal, open_shared_refusal_of, number_refusal, request_refusal, unshared, stream_at, stream_numbers, unopened as no_stream, stream_of, has_stream, open_refusal, no_closed, closed_at}
 use Rattle.iw_endpoint.specs.Isolation.{HasDomains, IsOwn, after, unless}
 use Rattle.iw_endpoint.proofs.Steps.{concerns_one}
-use Rattle.iw_endpoint.proofs.Tables.{worked_domain, emit_domain}
+use Rattle.iw_endpoint.proofs.Tables.{worked_peer, emit_peer}
 use Rattle.iw_laws.specs.Rules.{EndState, Rule, EndRule, end_after, call_made}
 use Rattle.iw_laws.proofs.States.{opening_by, connected, left_at, streams_after, streams_left, closed_left, table_left, length-wires, shares_lent}
 use Rattle.iw_laws.proofs.Tales.{table-push, stream_acts-push, openings-push}
@@ -52,7 +53,7 @@ pub record EndSeen (s : EndState) (done : List (Act Octets)) : Type 0 where
   pub wires : length s.wires ≡ 64
   pub none_closed : s.endpoint.closed ≡ no_closed
   pub opened : (n : ℕ) → has_stream s.endpoint n ≡ was_opened (openings n done)
-  pub domain : (n : ℕ) → has_stream s.endpoint n ≡ true → (stream_at s.endpoint n).domain ≡ domain_of n done
+  pub peer : (n : ℕ) → has_stream s.endpoint n ≡ true → peer_of (stream_at s.endpoint n) ≡ peer_at n done
   pub pooled : (n : ℕ) → has_stream s.endpoint n ≡ true → shares (stream_at s.endpoint n) ≡ (opening_of n done).shared
   pub unused : (n : ℕ) → has_stream s.endpoint n ≡ false → stream_acts n done ≡ []
 
@@ -103,9 +104,9 @@ opens_shared s n pd role config e = numbered s n pd (go (number_refusal s.endpoi
     go None h = refl
     go (Some r) h = absurd (none-some _ h)
 
-left_domain : (table : Table) (o : Option (List Octets)) (s : StreamState) → (left_of table o s).domain ≡ s.domain
-left_domain table None s = worked_domain table s
-left_domain table (Some pool) s = worked_domain table (sees s pool)
+left_peer : (table : Table) (o : Option (List Octets)) (s : StreamState) → peer_of (left_of table o s) ≡ peer_of s
+left_peer table None s = worked_peer table s
+left_peer table (Some pool) s = worked_peer table (sees s pool)
 
 -- whether it shares a pool stays
 emit_shares : (table : Table) (s : StreamState) → shares (after_emit table s) ≡ shares s
@@ -132,31 +133,31 @@ left_shares table None s = work_shares table s
 left_shares table (Some pool) s = shares_lent (worked table (sees s pool)).receiving.source (exchanged s.receiving.source pool) ∙ work_shares table (sees s pool) ∙ shares_lent s.receiving.source pool
 
 pub record KeepsStream (s s' : StreamState) : Type 0 where
-  pub domain : s'.domain ≡ s.domain
+  pub peer : peer_of s' ≡ peer_of s
   pub pooled : shares s' ≡ shares s
 
 keeps_stream : (e : EndpointState) (n : ℕ) (act : StreamAct Octets) → KeepsStream (stream_at e n) (left_at e n act)
-keeps_stream e n (Recv len None) = record { domain = refl; pooled = posted_shares (stream_at e n).receiving.source (replicate len 0) }
-keeps_stream e n (Recv len (Some refusal)) = record { domain = refl; pooled = refl }
-keeps_stream e n (Post m None) = record { domain = refl; pooled = refl }
-keeps_stream e n (Post m (Some refusal)) = record { domain = refl; pooled = refl }
-keeps_stream e n (Emit shown) = record { domain = emit_domain e.table (stream_at e n); pooled = emit_shares e.table (stream_at e n) }
-keeps_stream e n (Accept private (Ok agreed)) = record { domain = refl; pooled = refl }
-keeps_stream e n (Accept private (Err refusal)) = record { domain = refl; pooled = refl }
-keeps_stream e n (Reject private None) = record { domain = refl; pooled = refl }
-keeps_stream e n (Reject private (Some refusal)) = record { domain = refl; pooled = refl }
-keeps_stream e n (Deliver from number octets Kept) = record { domain = refl; pooled = refl }
-keeps_stream e n (Deliver from number octets Dropped) = record { domain = refl; pooled = refl }
-keeps_stream e n (Raw number octets Kept) = record { domain = refl; pooled = refl }
-keeps_stream e n (Raw number octets Dropped) = record { domain = refl; pooled = refl }
-keeps_stream e n (First number None) = record { domain = refl; pooled = refl }
-keeps_stream e n (First number (Some refusal)) = record { domain = refl; pooled = refl }
-keeps_stream e n (Mulpdu size None) = record { domain = refl; pooled = refl }
-keeps_stream e n (Mulpdu size (Some refusal)) = record { domain = refl; pooled = refl }
+keeps_stream e n (Recv len None) = record { peer = refl; pooled = posted_shares (stream_at e n).receiving.source (replicate len 0) }
+keeps_stream e n (Recv len (Some refusal)) = record { peer = refl; pooled = refl }
+keeps_stream e n (Post m None) = record { peer = refl; pooled = refl }
+keeps_stream e n (Post m (Some refusal)) = record { peer = refl; pooled = refl }
+keeps_stream e n (Emit shown) = record { peer = emit_peer e.table (stream_at e n); pooled = emit_shares e.table (stream_at e n) }
+keeps_stream e n (Accept private (Ok agreed)) = record { peer = refl; pooled = refl }
+keeps_stream e n (Accept private (Err refusal)) = record { peer = refl; pooled = refl }
+keeps_stream e n (Reject private None) = record { peer = refl; pooled = refl }
+keeps_stream e n (Reject private (Some refusal)) = record { peer = refl; pooled = refl }
+keeps_stream e n (Deliver from number octets Kept) = record { peer = refl; pooled = refl }
+keeps_stream e n (Deliver from number octets Dropped) = record { peer = refl; pooled = refl }
+keeps_stream e n (Raw number octets Kept) = record { peer = refl; pooled = refl }
+keeps_stream e n (Raw number octets Dropped) = record { peer = refl; pooled = refl }
+keeps_stream e n (First number None) = record { peer = refl; pooled = refl }
+keeps_stream e n (First number (Some refusal)) = record { peer = refl; pooled = refl }
+keeps_stream e n (Mulpdu size None) = record { peer = refl; pooled = refl }
+keeps_stream e n (Mulpdu size (Some refusal)) = record { peer = refl; pooled = refl }
 keeps_stream e n (Work step) =
     let s : StreamState = stream_at e n in
-    record { domain = left_domain e.table (pool_of e s.domain) s; pooled = left_shares e.table (pool_of e s.domain) s }
-keeps_stream e n Break = record { domain = refl; pooled = refl }
+    record { peer = left_peer e.table (pool_of e s.domain) s; pooled = left_shares e.table (pool_of e s.domain) s }
+keeps_stream e n Break = record { peer = refl; pooled = refl }
 
 -- ---- the stream of a number, behind an act
 
@@ -175,10 +176,13 @@ at_other s m n o h = get_or-set_other s.endpoint.streams m n o None (differ h)
 pub number_there : (s : EndState) (n : ℕ) → has_stream s.endpoint n ≡ true → n < length s.endpoint.streams
 number_there s n h = there s.endpoint.streams n h
 
+abbrev peer_opened : List Opening → ℕ → Peer
+peer_opened os n = record { domain = (opening_in os).domain; stream = Some n }
+
 -- what the streams of the other numbers keep
 pub record KeepsNumber (s : EndState) (done : List (Act Octets)) (act : Act Octets) (n : ℕ) : Type 0 where
   pub has : has_stream (end_after s act).endpoint n ≡ was_opened (openings n (done ++ act ∷ []))
-  pub domain : has_stream (end_after s act).endpoint n ≡ true → (stream_at (end_after s act).endpoint n).domain ≡ domain_of n (done ++ act ∷ [])
+  pub peer : has_stream (end_after s act).endpoint n ≡ true → peer_of (stream_at (end_after s act).endpoint n) ≡ peer_at n (done ++ act ∷ [])
   pub pooled : has_stream (end_after s act).endpoint n ≡ true → shares (stream_at (end_after s act).endpoint n) ≡ (opening_of n (done ++ act ∷ [])).shared
   pub unused : has_stream (end_after s act).endpoint n ≡ false → stream_acts n (done ++ act ∷ []) ≡ []
 
@@ -189,7 +193,7 @@ keeps_number s done act n k rule left none silent =
     let opened_same : openings n (done ++ act ∷ []) ≡ openings n done = opens_same n done act none in
     record {
       has = ap is_some same ∙ k.opened n ∙ ap was_opened (sym opened_same);
-      domain = λ h. ap (λ o. (unwrap_or o no_stream).domain) same ∙ k.domain n (ap is_some (sym same) ∙ h) ∙ ap (λ os. (opening_in os).domain) (sym opened_same);
+      peer = λ h. ap (λ o. peer_of (unwrap_or o no_stream)) same ∙ k.peer n (ap is_some (sym same) ∙ h) ∙ ap (λ os. peer_opened os n) (sym opened_same);
       pooled = λ h. ap (λ o. shares (unwrap_or o no_stream)) same ∙ k.pooled n (ap is_some (sym same) ∙ h) ∙ ap (λ os. (opening_in os).shared) (sym opened_same);
       unused = λ h. stream_acts-push n done act ∙ (λ i. k.unused n (ap is_some (sym same) ∙ h) i ++ silent i);
     }
@@ -209,21 +213,21 @@ first_shares false = refl
 
 -- a stream is opened
 number_opened : (s : EndState) (done : List (Act Octets)) (act : Act Octets) (m n : ℕ) (o : Opening) → EndSeen s done → EndRule s.endpoint act → Opens s m → openings_by n act ≡ cond (eqb m n) (o ∷ []) []
-    → streams_after s.endpoint act ≡ slice_set s.endpoint.streams m (Some (connected o).stream) → stream_acts_by n act ≡ [] → KeepsNumber s done act n
+    → streams_after s.endpoint act ≡ slice_set s.endpoint.streams m (Some (connected o (Some m)).stream) → stream_acts_by n act ≡ [] → KeepsNumber s done act n
 number_opened s done act m n o k rule new one left silent = go (eqb m n) refl
   where
     go : (b : Bool) → eqb m n ≡ b → KeepsNumber s done act n
-    go false e = keeps_number s done act n k rule (ap (λ xs. slice_index_or xs n None) left ∙ at_other s m n (Some (connected o).stream) e) (one ∙ opening_none (eqb m n) o e) silent
+    go false e = keeps_number s done act n k rule (ap (λ xs. slice_index_or xs n None) left ∙ at_other s m n (Some (connected o (Some m)).stream) e) (one ∙ opening_none (eqb m n) o e) silent
     go true e =
         let same : m ≡ n = eqb-true m n e in
         let room : m < length s.endpoint.streams = omega (arith, new.number, k.numbers) in
-        let here : stream_of (end_after s act).endpoint n ≡ Some (connected o).stream =
-        at_act s.endpoint act n rule ∙ ap (λ xs. slice_index_or xs n None) left ∙ subst (λ j. slice_index_or (slice_set s.endpoint.streams m (Some (connected o).stream)) j None ≡ Some (connected o).stream) same (at_same s m (connected o).stream room) in
+        let here : stream_of (end_after s act).endpoint n ≡ Some (connected o (Some m)).stream =
+        at_act s.endpoint act n rule ∙ ap (λ xs. slice_index_or xs n None) left ∙ subst (λ j. slice_index_or (slice_set s.endpoint.streams m (Some (connected o (Some m)).stream)) j None ≡ Some (connected o (Some m)).stream) same (at_same s m (connected o (Some m)).stream room) in
         let before : openings n done ≡ [] = unopened (openings n done) (sym (k.opened n) ∙ subst (λ j. has_stream s.endpoint j ≡ false) same new.fresh) in
         let now : openings n (done ++ act ∷ []) ≡ o ∷ [] = openings-push n done act ∙ (λ i. before i ++ (one ∙ opening_one (eqb m n) o e) i) in
         record {
           has = ap is_some here ∙ ap was_opened (sym now);
-          domain = λ h. ap (λ z. (unwrap_or z no_stream).domain) here ∙ ap (λ os. (opening_in os).domain) (sym now);
+          peer = λ h. ap (λ z. peer_of (unwrap_or z no_stream)) here ∙ ap (λ j. peer_opened (o ∷ []) j) same ∙ ap (λ os. peer_opened os n) (sym now);
           pooled = λ h. ap (λ z. shares (unwrap_or z no_stream)) here ∙ first_shares o.shared ∙ ap (λ os. (opening_in os).shared) (sym now);
           unused = λ h. absurd (true≢false (sym (ap is_some here) ∙ h));
         }
@@ -257,7 +261,7 @@ number_after s peer done (Stream m act) n k rule = go (eqb m n) refl
         let opened_same : openings n (done ++ Stream m act ∷ []) ≡ openings n done = opens_same n done (Stream m act) refl in
         record {
           has = ap is_some here ∙ sym has ∙ k.opened n ∙ ap was_opened (sym opened_same);
-          domain = λ h. ap (λ z. (unwrap_or z no_stream).domain) here ∙ keeps.domain ∙ ap (λ j. (stream_at s.endpoint j).domain) same ∙ k.domain n has ∙ ap (λ os. (opening_in os).domain) (sym opened_same);
+          peer = λ h. ap (λ z. peer_of (unwrap_or z no_stream)) here ∙ keeps.peer ∙ ap (λ j. peer_of (stream_at s.endpoint j)) same ∙ k.peer n has ∙ ap (λ os. peer_opened os n) (sym opened_same);
           pooled = λ h. ap (λ z. shares (unwrap_or z no_stream)) here ∙ keeps.pooled ∙ ap (λ j. shares (stream_at s.endpoint j)) same ∙ k.pooled n has ∙ ap (λ os. (opening_in os).shared) (sym opened_same);
           unused = λ h. absurd (true≢false (sym (ap is_some here) ∙ h));
         }
@@ -273,8 +277,8 @@ numbers_after s (Pool pd len refused) = refl
 numbers_after s (Unpool pd answer) = refl
 numbers_after s (Open m pd role options private (Some refusal)) = refl
 numbers_after s (OpenShared m pd role options private (Some refusal)) = refl
-numbers_after s (Open m pd role options private None) = length-set s.endpoint.streams m (Some (connected (opening_by false pd role options private)).stream)
-numbers_after s (OpenShared m pd role options private None) = length-set s.endpoint.streams m (Some (connected (opening_by true pd role options private)).stream)
+numbers_after s (Open m pd role options private None) = length-set s.endpoint.streams m (Some (connected (opening_by false pd role options private) (Some m)).stream)
+numbers_after s (OpenShared m pd role options private None) = length-set s.endpoint.streams m (Some (connected (opening_by true pd role options private) (Some m)).stream)
 numbers_after s (Stream m act) = length-set s.endpoint.streams m (Some (left_at s.endpoint m act))
 
 -- there is a place for each domain
@@ -290,12 +294,12 @@ domains_after e (Unpool pd answer) none rule all = (concerns_one pd e (call_made
 domains_after e (Open n pd role options private refused) none rule all = go (endpoint.open_refusal e n pd role (config_for options private))
   where
     go : (o : Option OpenRefusal) → HasDomains (unless o e (endpoint.opened e n pd role (config_for options private)))
-    go None = (all.0, all.1, omega (arith, all.2, length-set e.streams n (Some (opened pd role (config_for options private)))))
+    go None = (all.0, all.1, omega (arith, all.2, length-set e.streams n (Some (endpoint.new_stream n pd role (config_for options private)))))
     go (Some r) = all
 domains_after e (OpenShared n pd role options private refused) none rule all = go (endpoint.open_shared_refusal e n pd role (config_for options private))
   where
     go : (o : Option OpenSharedRefusal) → HasDomains (unless o e (endpoint.opened_shared e n pd role (config_for options private)))
-    go None = (all.0, all.1, omega (arith, all.2, length-set e.streams n (Some (opened_shared pd role (config_for options private)))))
+    go None = (all.0, all.1, omega (arith, all.2, length-set e.streams n (Some (endpoint.new_shared n pd role (config_for options private)))))
     go (Some r) = all
 domains_after e (Stream n act) none rule all = go (stream_of e n) refl rule.0
   where
@@ -312,7 +316,7 @@ end_step s peer done act k rule = record {
   wires = length-wires s act ∙ k.wires;
   none_closed = closed_left s.endpoint act ∙ k.none_closed;
   opened = λ n. (number_after s peer done act n k rule).has;
-  domain = λ n. (number_after s peer done act n k rule).domain;
+  peer = λ n. (number_after s peer done act n k rule).peer;
   pooled = λ n. (number_after s peer done act n k rule).pooled;
   unused = λ n. (number_after s peer done act n k rule).unused;
 }

@@ -9,9 +9,10 @@ use Rattle.std.specs.Result.{result_err}
 use Rattle.std.specs.Option.{option_map, option_map_or, option_or}
 use Rattle.std.proofs.lemmas.Bool.{false≢true, true≢false}
 use Rattle.iw_octets.specs.Segment.{segment_octets}
+use Rattle.iw_memory.specs.declared.peer.Peer.{Peer}
 use Rattle.iw_memory.specs.declared.refusal.RegisterRefusal.{RegisterRefusal}
 use Rattle.iw_memory.specs.declared.refusal.RegisterRefusal.TheVariants as register_refusals
-use Rattle.iw_memory.specs.Region.{Region}
+use Rattle.iw_memory.specs.Region.{Region, new_region}
 use Rattle.iw_memory.specs.Part.{free_slot}
 use Rattle.iw_memory.proofs.LawLemmas.{registered-changes}
 use Rattle.std.proofs.lemmas.Option.{none-some}
@@ -25,7 +26,7 @@ use Rattle.iw_octets.specs.declared.operation.UntaggedOperation.TheVariants as u
 use Rattle.iw_octets.specs.Operation.{control_of, tagged_opcode, untagged_opcode}
 use Rattle.iw_stream.specs.Starting as starting
 use Rattle.iw_stream.specs.Starting.{most_reads_in, sending, own_frame, first_place_out, agreement_in}
-use Rattle.iw_stream.specs.Stream.{StreamState, is_read, may_go, part_due, response_due, owes_frame, rtr_due, recv_refusal, recv_refusal_of, post_refusal, post_refusal_of, answer_refusal, delivery_of, ended, place_of, left_out}
+use Rattle.iw_stream.specs.Stream.{StreamState, is_read, may_go, part_due, response_due, owes_frame, rtr_due, recv_refusal, recv_refusal_of, post_refusal, post_refusal_of, answer_refusal, delivery_of, ended, place_of, left_out, peer_of}
 use Rattle.iw_stream.specs.Ending.{has_ended, is_broken, last_word}
 use Rattle.iw_stream.specs.Work as work
 use Rattle.iw_stream.specs.declared.answer.PostRefusal.TheVariants as post_refusals
@@ -78,7 +79,7 @@ use Rattle.iw_events.specs.declared.act.Shown.{Shown}
 use Rattle.iw_events.specs.declared.act.Seen.{Seen}
 use Rattle.iw_events.specs.declared.act.Seen.TheVariants as seen
 use Rattle.iw_events.specs.declared.act.Entry.{Entry}
-use Rattle.iw_laws.specs.Words.{Octets, other, acts, deed, private_data, config_for, handed_kinds, size_set, stream_acts, Opening, opening_in, opening_of, openings, was_opened, domain_of, posted, sends, received, ended as has_ended_by, sent, placings, written, sunk, finished_kinds, table_after}
+use Rattle.iw_laws.specs.Words.{Octets, other, acts, deed, private_data, config_for, handed_kinds, size_set, stream_acts, Opening, opening_in, opening_of, openings, was_opened, posted, sends, received, ended as has_ended_by, sent, placings, written, sunk, finished_kinds, table_after, peer_at}
 use Rattle.iw_laws.specs.Safe.{IsHonest, InOrder, CoversWrites, Covered, Fits, Within, WithinStream}
 use Rattle.iw_laws.specs.Merged.{AreMerged, response_segment}
 use Rattle.iw_laws.specs.Faithful.{FetchShown, FetchStream, count_done, AnswersReads, Answering}
@@ -93,7 +94,7 @@ use Rattle.iw_endpoint.specs.Endpoint.{is_taken, stream_numbers, pool_of, stream
 use Rattle.iw_endpoint.specs.Isolation.{answer_or}
 use Rattle.iw_laws.specs.Rules.{EndState, State, end_of, start, Rule, EndRule, PeerRule, WireRule, StreamRule, needs_peer, state_after, Follows, wire_at}
 use Rattle.iw_events.specs.Events.{stream_call_of}
-use Rattle.iw_laws.proofs.States.{Connected, connected_seen as connected_at, lent_rule, lent_domain}
+use Rattle.iw_laws.proofs.States.{Connected, connected_seen as connected_at, lent_rule, lent_peer}
 use Rattle.iw_laws.proofs.Pools.{PoolsSeen, held, tale_seen as tale}
 use Rattle.iw_laws.specs.Bounds.{LacksStream, AsksTooMuch, AsksOver}
 use Rattle.iw_laws.specs.Stops.{NamesNoStream, AsksNotSent, IsUnopened}
@@ -184,9 +185,9 @@ answering_all trace follows past future is x n honest = answers_reads past (stat
 -- ---- what changes
 
 -- what changed lay where it was allowed
-within_stream : (done : List (Act Octets)) (n domain : ℕ) (table : Table) (act : StreamAct Octets) → domain ≡ domain_of n done → table ≡ table_after done
-    → WithinTale table domain (tale n done) act → WithinStream done n act
-within_stream done n domain table act d t h = subst (λ z. WithinTale z (domain_of n done) (tale n done) act) t (subst (λ z. WithinTale table z (tale n done) act) d h)
+within_stream : (done : List (Act Octets)) (n : ℕ) (peer : Peer) (table : Table) (act : StreamAct Octets) → peer ≡ peer_at n done → table ≡ table_after done
+    → WithinTale table peer (tale n done) act → WithinStream done n act
+within_stream done n peer table act p t h = subst (λ z. WithinTale z (peer_at n done) (tale n done) act) t (subst (λ z. WithinTale table z (tale n done) act) p h)
 
 -- with these receive buffers
 abbrev story_with : Opening → List (StreamAct Octets) → Receiving → Story
@@ -220,7 +221,7 @@ moment past e future trace follows is =
 
 -- a law of each entry of a stream, by the state before it
 each_stream : (P : List (Act Octets) → ℕ → StreamAct Octets → Type 0) (trace : List (Entry Octets)) → Follows start trace
-    → ((done : List (Act Octets)) (s : EndState) (n : ℕ) (c : Connected) (act : StreamAct Octets) → EndKept s done → c.stream.domain ≡ domain_of n done → StreamRule s.endpoint.table c.stream act
+    → ((done : List (Act Octets)) (s : EndState) (n : ℕ) (c : Connected) (act : StreamAct Octets) → EndKept s done → peer_of c.stream ≡ peer_at n done → StreamRule s.endpoint.table c.stream act
     → Own (opening_of n done) c (tale n done) → P done n act) → AtEach (OnStream P) trace
 each_stream P trace follows one past e future is =
     let m = moment past e future trace follows is in
@@ -229,11 +230,11 @@ each_stream P trace follows one past e future is =
     on_stream P (acts e.end past) s e.act m.1.0 (λ n act opened rule.
     let h = (m.0.pairs e.end n).own in
     let there = left_acts s.endpoint.table (connected_at s n).stream h.stream (tale n (acts e.end past)) act h.is_left h.own.track rule in
-    one (acts e.end past) s n (held h) act (m.0.ends e.end) (sym (ap (λ (z : StreamState). z.domain) (left_apart h.is_left)) ∙ lent_domain (pool_of s.endpoint (stream_at s.endpoint n).domain) (stream_at s.endpoint n) ∙ (m.0.ends e.end).domain n opened) there.0 h.own)
+    one (acts e.end past) s n (held h) act (m.0.ends e.end) (sym (ap peer_of (left_apart h.is_left)) ∙ lent_peer (pool_of s.endpoint (stream_at s.endpoint n).domain) (stream_at s.endpoint n) ∙ (m.0.ends e.end).peer n opened) there.0 h.own)
 
 pub within_all : (trace : List (Entry Octets)) → Follows start trace → Within trace
-within_all trace follows = each_stream WithinStream trace follows (λ done s n c act k domain rule own.
-    within_stream done n c.stream.domain s.endpoint.table act domain k.table (within (opening_of n done) s.endpoint.table c (tale n done) act (told s.endpoint.table c.stream act (sound c.stream (tale n done) own.track) rule) own))
+within_all trace follows = each_stream WithinStream trace follows (λ done s n c act k peer rule own.
+    within_stream done n (peer_of c.stream) s.endpoint.table act peer k.table (within (opening_of n done) s.endpoint.table c (tale n done) act (told s.endpoint.table c.stream act (sound c.stream (tale n done) own.track) rule) own))
 
 -- ---- what goes out
 
@@ -393,7 +394,7 @@ nothing_stream o c done queue table (Work step) rule own = tt
 nothing_stream o c done queue table Break rule own = tt
 
 pub nothing_at_rest : (trace : List (Entry Octets)) → Follows start trace → NothingOnlyAtRest trace
-nothing_at_rest trace follows = each_stream NothingStream trace follows (λ done s n c act k domain rule own. nothing_stream (opening_of n done) c (stream_acts n done) (receiving_of n done) s.endpoint.table act rule own)
+nothing_at_rest trace follows = each_stream NothingStream trace follows (λ done s n c act k peer rule own. nothing_stream (opening_of n done) c (stream_acts n done) (receiving_of n done) s.endpoint.table act rule own)
 
 -- a frame stands behind what was sent, and is the start-up frame or that of a part, as large as was set
 -- how large the frame of a part is
@@ -514,7 +515,7 @@ shown_sized o c done queue table (Work step) rule own = tt
 shown_sized o c done queue table Break rule own = tt
 
 pub sized_all : (trace : List (Entry Octets)) → Follows start trace → Sized trace
-sized_all trace follows = each_stream SizedStream trace follows (λ done s n c act k domain rule own. shown_sized (opening_of n done) c (stream_acts n done) (receiving_of n done) s.endpoint.table act rule own)
+sized_all trace follows = each_stream SizedStream trace follows (λ done s n c act k peer rule own. shown_sized (opening_of n done) c (stream_acts n done) (receiving_of n done) s.endpoint.table act rule own)
 
 may_send : (o : Opening) (c : Connected) (done : List (StreamAct Octets)) (queue : Receiving) → MaySpeak c.stream → Own o c (tale_with o done queue) → MaySend (has_ended_by done) (story_with o done queue)
 may_send o c done queue m own =
@@ -563,41 +564,41 @@ shown_allowed o c done queue table (Work step) rule own = tt
 shown_allowed o c done queue table Break rule own = tt
 
 pub speaks_all : (trace : List (Entry Octets)) → Follows start trace → Speaks trace
-speaks_all trace follows = each_stream SpeaksStream trace follows (λ done s n c act k domain rule own. shown_allowed (opening_of n done) c (stream_acts n done) (receiving_of n done) s.endpoint.table act rule own)
+speaks_all trace follows = each_stream SpeaksStream trace follows (λ done s n c act k peer rule own. shown_allowed (opening_of n done) c (stream_acts n done) (receiving_of n done) s.endpoint.table act rule own)
 
 -- ---- the turns of frames
 
-same_standing : (done : List (Act Octets)) (n : ℕ) (s : EndState) (c : Connected) → EndKept s done → c.stream.domain ≡ domain_of n done → Own (opening_of n done) c (tale n done) → work.standing s.endpoint.table c.stream ≡ standing n done
-same_standing done n s c k domain own =
-    λ i. record { table = k.table i; domain = domain i; receiving = sym own.track.receiving i; reads = sym own.emits.asks.reads i; asked = sym own.emits.asks.asked i }
+same_standing : (done : List (Act Octets)) (n : ℕ) (s : EndState) (c : Connected) → EndKept s done → peer_of c.stream ≡ peer_at n done → Own (opening_of n done) c (tale n done) → work.standing s.endpoint.table c.stream ≡ standing n done
+same_standing done n s c k peer own =
+    λ i. record { table = k.table i; peer = peer i; receiving = sym own.track.receiving i; reads = sym own.emits.asks.reads i; asked = sym own.emits.asks.asked i }
 
-turns_stream : (done : List (Act Octets)) (n : ℕ) (s : EndState) (c : Connected) (act : StreamAct Octets) → EndKept s done → c.stream.domain ≡ domain_of n done → StreamRule s.endpoint.table c.stream act
+turns_stream : (done : List (Act Octets)) (n : ℕ) (s : EndState) (c : Connected) (act : StreamAct Octets) → EndKept s done → peer_of c.stream ≡ peer_at n done → StreamRule s.endpoint.table c.stream act
     → Own (opening_of n done) c (tale n done) → TurnsStream done n act
-turns_stream done n s c (Work step) k domain rule own =
-    subst (λ z. TurnsSeen (has_ended_by (stream_acts n done)) (story_of n done) z step) (same_standing done n s c k domain own) (answers s.endpoint.table c.stream (tale n done) step rule own.track own.ended)
-turns_stream done n s c (Post m refused) k domain rule own = tt
-turns_stream done n s c (Recv len refused) k domain rule own = tt
-turns_stream done n s c (Emit shown) k domain rule own = tt
-turns_stream done n s c (Deliver from number octets delivery) k domain rule own = tt
-turns_stream done n s c (Raw number octets delivery) k domain rule own = tt
-turns_stream done n s c (First number refused) k domain rule own = tt
-turns_stream done n s c (Mulpdu size refused) k domain rule own = tt
-turns_stream done n s c (Accept private answer) k domain rule own = tt
-turns_stream done n s c (Reject private refused) k domain rule own = tt
-turns_stream done n s c Break k domain rule own = tt
+turns_stream done n s c (Work step) k peer rule own =
+    subst (λ z. TurnsSeen (has_ended_by (stream_acts n done)) (story_of n done) z step) (same_standing done n s c k peer own) (answers s.endpoint.table c.stream (tale n done) step rule own.track own.ended)
+turns_stream done n s c (Post m refused) k peer rule own = tt
+turns_stream done n s c (Recv len refused) k peer rule own = tt
+turns_stream done n s c (Emit shown) k peer rule own = tt
+turns_stream done n s c (Deliver from number octets delivery) k peer rule own = tt
+turns_stream done n s c (Raw number octets delivery) k peer rule own = tt
+turns_stream done n s c (First number refused) k peer rule own = tt
+turns_stream done n s c (Mulpdu size refused) k peer rule own = tt
+turns_stream done n s c (Accept private answer) k peer rule own = tt
+turns_stream done n s c (Reject private refused) k peer rule own = tt
+turns_stream done n s c Break k peer rule own = tt
 
 pub turns_all : (trace : List (Entry Octets)) → Follows start trace → Turns trace
 turns_all trace follows = each_stream TurnsStream trace follows turns_at
   where
-    turns_at : (done : List (Act Octets)) (s : EndState) (n : ℕ) (c : Connected) (act : StreamAct Octets) → EndKept s done → c.stream.domain ≡ domain_of n done → StreamRule s.endpoint.table c.stream act
+    turns_at : (done : List (Act Octets)) (s : EndState) (n : ℕ) (c : Connected) (act : StreamAct Octets) → EndKept s done → peer_of c.stream ≡ peer_at n done → StreamRule s.endpoint.table c.stream act
         → Own (opening_of n done) c (tale n done) → TurnsStream done n act
-    turns_at done s n c act k domain rule own = turns_stream done n s c act k domain rule own
+    turns_at done s n c act k peer rule own = turns_stream done n s c act k peer rule own
 
 -- ---- what is fetched
 
-fetch_shown : (done : List (Act Octets)) (n : ℕ) (s : EndState) (c : Connected) (act : StreamAct Octets) → EndKept s done → c.stream.domain ≡ domain_of n done → StreamRule s.endpoint.table c.stream act → Own (opening_of n done) c (tale n done)
+fetch_shown : (done : List (Act Octets)) (n : ℕ) (s : EndState) (c : Connected) (act : StreamAct Octets) → EndKept s done → peer_of c.stream ≡ peer_at n done → StreamRule s.endpoint.table c.stream act → Own (opening_of n done) c (tale n done)
     → OnSome (FetchShown (story_of n done) (work.standing s.endpoint.table c.stream) (size_set (stream_acts n done))) (deed act).shown
-fetch_shown done n s c (Emit (Fetched from frame stag to octets)) k domain rule own =
+fetch_shown done n s c (Emit (Fetched from frame stag to octets)) k peer rule own =
     let t : Tale = tale n done in
     let w = answers_part s.endpoint.table c.stream t from frame stag to octets (emits_as s.endpoint.table c.stream (Fetched from frame stag to octets) rule) own.emits.asks in
     let p = emits_as s.endpoint.table c.stream (Fetched from frame stag to octets) rule in
@@ -607,12 +608,12 @@ fetch_shown done n s c (Emit (Fetched from frame stag to octets)) k domain rule 
       source = w.stag_is;
       place = w.to_is;
       asked_for = w.within;
-      allowed = allows s.endpoint.table c.stream.domain stag to (length octets) rights.Read w.admitted;
+      allowed = allows s.endpoint.table (peer_of c.stream) stag to (length octets) rights.Read w.admitted;
       stand = w.stand;
       carries = w.frame_is
           ∙ (λ i. frame_octets (sending (sym own.track.begins.start i)) (sym p.from_is i - first_place_out (sym own.track.begins.start i)) (segment_octets (response_segment w.oldest.request (length (story_of n done).begun) (w.last_is i) octets)));
     }
-fetch_shown done n s c (Emit (Denied fault)) k domain rule own =
+fetch_shown done n s c (Emit (Denied fault)) k peer rule own =
     let t : Tale = tale n done in
     let p = emits_as s.endpoint.table c.stream (Denied fault) rule in
     let w = part_is_of c.stream p.part p.is_due in
@@ -620,26 +621,26 @@ fetch_shown done n s c (Emit (Denied fault)) k domain rule own =
     record {
       oldest = w.oldest;
       waits = record { others = w.others; is = ap (λ (z : Requested). z.unanswered) own.emits.asks.asked ∙ w.waiting };
-      denied = (λ i. reading_fault s.endpoint.table c.stream.domain w.oldest.request.source (w.oldest.request.source_to + sym fetched i) (min (w.oldest.request.size - sym fetched i) (sym own.emits.size i - 14)))
-          ∙ ap (fetch_fault s.endpoint.table c.stream.domain) (sym w.is) ∙ p.denied;
+      denied = (λ i. reading_fault s.endpoint.table (peer_of c.stream) w.oldest.request.source (w.oldest.request.source_to + sym fetched i) (min (w.oldest.request.size - sym fetched i) (sym own.emits.size i - 14)))
+          ∙ ap (fetch_fault s.endpoint.table (peer_of c.stream)) (sym w.is) ∙ p.denied;
     }
-fetch_shown done n s c (Emit (Frame from octets)) k domain rule own =
+fetch_shown done n s c (Emit (Frame from octets)) k peer rule own =
     frame_plain s.endpoint.table c.stream (tale n done) from octets rule own.track.begins.start own.sent own.emits
-fetch_shown done n s c (Emit Nothing) k domain rule own = tt
-fetch_shown done n s c (Post m refused) k domain rule own = tt
-fetch_shown done n s c (Recv len refused) k domain rule own = tt
-fetch_shown done n s c (Deliver from number octets delivery) k domain rule own = tt
-fetch_shown done n s c (Raw number octets delivery) k domain rule own = tt
-fetch_shown done n s c (First number refused) k domain rule own = tt
-fetch_shown done n s c (Mulpdu size refused) k domain rule own = tt
-fetch_shown done n s c (Accept private answer) k domain rule own = tt
-fetch_shown done n s c (Reject private refused) k domain rule own = tt
-fetch_shown done n s c (Work step) k domain rule own = tt
-fetch_shown done n s c Break k domain rule own = tt
+fetch_shown done n s c (Emit Nothing) k peer rule own = tt
+fetch_shown done n s c (Post m refused) k peer rule own = tt
+fetch_shown done n s c (Recv len refused) k peer rule own = tt
+fetch_shown done n s c (Deliver from number octets delivery) k peer rule own = tt
+fetch_shown done n s c (Raw number octets delivery) k peer rule own = tt
+fetch_shown done n s c (First number refused) k peer rule own = tt
+fetch_shown done n s c (Mulpdu size refused) k peer rule own = tt
+fetch_shown done n s c (Accept private answer) k peer rule own = tt
+fetch_shown done n s c (Reject private refused) k peer rule own = tt
+fetch_shown done n s c (Work step) k peer rule own = tt
+fetch_shown done n s c Break k peer rule own = tt
 
 pub fetched_all : (trace : List (Entry Octets)) → Follows start trace → AtEach (OnStream FetchStream) trace
-fetched_all trace follows = each_stream FetchStream trace follows (λ done s n c act k domain rule own.
-    subst (λ z. OnSome (FetchShown (story_of n done) z (size_set (stream_acts n done))) (deed act).shown) (same_standing done n s c k domain own) (fetch_shown done n s c act k domain rule own))
+fetched_all trace follows = each_stream FetchStream trace follows (λ done s n c act k peer rule own.
+    subst (λ z. OnSome (FetchShown (story_of n done) z (size_set (stream_acts n done))) (deed act).shown) (same_standing done n s c k peer own) (fetch_shown done n s c act k peer rule own))
 
 -- ---- Reads that are outstanding
 
@@ -680,7 +681,7 @@ finished_stream done n s c (Accept private answer) rule own = tt
 finished_stream done n s c (Reject private refused) rule own = tt
 
 pub finished_all : (trace : List (Entry Octets)) → Follows start trace → Finished trace
-finished_all trace follows = each_stream FinishedStream trace follows (λ done s n c act k domain rule own. finished_stream done n s c act rule own)
+finished_all trace follows = each_stream FinishedStream trace follows (λ done s n c act k peer rule own. finished_stream done n s c act rule own)
 
 -- ---- rest
 
@@ -715,7 +716,7 @@ idle_stream s c done n (First number refused) rule o = tt
 idle_stream s c done n (Mulpdu size refused) rule o = tt
 
 pub idle_at_rest : (trace : List (Entry Octets)) → Follows start trace → IdleOnlyAtRest trace
-idle_at_rest trace follows = each_stream IdleStream trace follows (λ done s n c act k domain rule own. idle_stream s c done n act rule own)
+idle_at_rest trace follows = each_stream IdleStream trace follows (λ done s n c act k peer rule own. idle_stream s c done n act rule own)
 
 -- ---- before their turn
 
@@ -829,7 +830,7 @@ ends_stream done n s c (Reject private refused) rule own = (tt, tt)
 ends_stream done n s c Break rule own = (tt, tt)
 
 pub ends_all : (trace : List (Entry Octets)) → Follows start trace → Ends trace
-ends_all trace follows = each_stream EndsStream trace follows (λ done s n c act k domain rule own. ends_stream done n s c act rule own)
+ends_all trace follows = each_stream EndsStream trace follows (λ done s n c act k peer rule own. ends_stream done n s c act rule own)
 
 -- the story of a stream has ended where its acts say so
 pub ended_told : (trace : List (Entry Octets)) → Follows start trace → (x : End) (n : ℕ) → has_ended (story_of n (acts x trace)).ending ≡ has_ended_by (stream_acts n (acts x trace))
@@ -877,7 +878,7 @@ registers table pd base len region answer e = subst (λ z. (result_err z ≡ reg
 end_answered : (done : List (Act Octets)) (s : EndState) (act : Act Octets) → EndKept s done → PoolsSeen s done → EndRule s.endpoint act → EndAnswered done act
 end_answered done s (Domain pd refused) k pools rule = subst (λ t. refused ≡ domain_refusal t pd) k.table rule
 end_answered done s (Register pd base rights octets answer) k pools rule =
-    subst (λ t. (result_err answer ≡ register_refusal t pd base (length octets)) × IfOk answer (IsNew t pd)) k.table (registers s.endpoint.table pd base (length octets) (record { base = base; octets = octets; rights = rights; valid = true }) answer rule)
+    subst (λ t. (result_err answer ≡ register_refusal t pd base (length octets)) × IfOk answer (IsNew t pd)) k.table (registers s.endpoint.table pd base (length octets) (new_region base octets rights) answer rule)
 end_answered done s (Deregister stag answer) k pools rule = subst (λ t. answer ≡ deregister_answer t stag) k.table rule
 end_answered done s (Invalidate stag refused) k pools rule = subst (λ t. refused ≡ invalidate_refusal t stag) k.table rule
 end_answered done s (Store stag to octets refused) k pools rule = subst (λ t. refused ≡ store_refusal t stag to (length octets)) k.table rule
@@ -957,7 +958,7 @@ stream_answered o c done queue table (Work step) rule own = tt
 stream_answered o c done queue table Break rule own = tt
 
 pub answered_all : (trace : List (Entry Octets)) → Follows start trace → Answered trace
-answered_all trace follows = each_stream AnsweredStream trace follows (λ done s n c act k domain rule own. stream_answered (opening_of n done) c (stream_acts n done) (receiving_of n done) s.endpoint.table act rule own)
+answered_all trace follows = each_stream AnsweredStream trace follows (λ done s n c act k peer rule own. stream_answered (opening_of n done) c (stream_acts n done) (receiving_of n done) s.endpoint.table act rule own)
 
 -- ---- octets that come
 
@@ -987,7 +988,7 @@ octets_kept o c done queue table (Work step) rule own = tt
 octets_kept o c done queue table Break rule own = tt
 
 pub keeps_octets : (trace : List (Entry Octets)) → Follows start trace → KeepsOctets trace
-keeps_octets trace follows = each_stream KeptStream trace follows (λ done s n c act k domain rule own. octets_kept (opening_of n done) c (stream_acts n done) (receiving_of n done) s.endpoint.table act rule own)
+keeps_octets trace follows = each_stream KeptStream trace follows (λ done s n c act k peer rule own. octets_kept (opening_of n done) c (stream_acts n done) (receiving_of n done) s.endpoint.table act rule own)
 
 -- octets that are delivered are the other end's, and have the numbers of their places
 carried : (o : Opening) (c : Connected) (done : List (StreamAct Octets)) (queue : Receiving) (table : Table) (wire : Octets) (act : StreamAct Octets) → StreamRule table c.stream act → WireRule wire act → Own o c (tale_with o done queue)

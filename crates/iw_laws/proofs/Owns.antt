@@ -14,6 +14,7 @@ use Rattle.iw_octets.specs.Parts.{part_at}
 use Rattle.iw_octets.proofs.Spelled.{read_request-spelled}
 use Rattle.iw_octets.proofs.Segments.{read_segment-spelled}
 use Rattle.iw_octets.specs.Segment.{read_segment}
+use Rattle.iw_memory.specs.declared.peer.Peer.{Peer}
 use Rattle.iw_memory.specs.declared.refusal.Deny.{Deny}
 use Rattle.iw_memory.specs.declared.rights.Right.{Right}
 use Rattle.iw_memory.specs.declared.rights.Right.TheVariants as rights
@@ -52,8 +53,8 @@ use Rattle.iw_laws.proofs.Ready.{ready_in, closed_ready, ready_room, ready_due, 
 use Rattle.iw_octets.specs.declared.segment.Segment.{Segment}
 use Rattle.iw_octets.specs.declared.segment.Segment.TheVariants.{Tagged, Untagged}
 use Rattle.iw_octets.specs.Segment.{segment_octets}
-use Rattle.iw_memory.specs.Table.{Table, region_at, denial, octets_at}
-use Rattle.iw_memory.specs.Laws.{Allows}
+use Rattle.iw_memory.specs.Table.{Table, region_at, octets_at, denial_for}
+use Rattle.iw_memory.specs.Laws.{AllowsFor}
 use Rattle.iw_memory.proofs.Callers.{allows}
 use Rattle.iw_ranges.specs.declared.Delivery.TheVariants.{Kept, Dropped}
 use Rattle.iw_ranges.specs.Arrived.{in_order}
@@ -93,7 +94,7 @@ use Rattle.iw_stream.specs.declared.answer.Role.{Role}
 use Rattle.iw_stream.specs.declared.answer.Role.TheVariants.{Preset, Initiator, Responder}
 use Rattle.iw_stream.specs.Frames.{payload_of}
 use Rattle.iw_stream.specs.Starting.{StartState, AtOnce, Unheard, Heard, is_open, sending, own_frame, first_place_in, is_responder, awaits_frame, heard, most_reads_in, answered_with, first_place_out, rtr_in}
-use Rattle.iw_stream.specs.Stream.{StreamState, Due, StartUp, Response as NextResponse, NextPart, NoneDue, LastWord, ended, size_refusal, due, emission_of, emitted, response_due, frame_of, is_read, reads_with, owes_frame, keeps_silent, place_of, left_out, Ready, rtr_due}
+use Rattle.iw_stream.specs.Stream.{StreamState, Due, StartUp, Response as NextResponse, NextPart, NoneDue, LastWord, ended, size_refusal, due, emission_of, emitted, response_due, frame_of, is_read, reads_with, owes_frame, keeps_silent, place_of, left_out, Ready, rtr_due, peer_of}
 use Rattle.iw_stream.specs.declared.ending.Ending.{Ending}
 use Rattle.iw_stream.specs.declared.ending.Ending.TheVariants.{Runs, Over, Broken}
 use Rattle.iw_stream.specs.Ending.{has_ended, is_broken, last_word, with_last_word}
@@ -1205,8 +1206,8 @@ part_is_of s part e = go (nat_lt 0 s.queue.offset) s.asked.unanswered refl refl 
     go false (x ∷ xs) c is h = record { oldest = x; others = xs; waiting = is; unbegun = (let low : s.queue.offset ≤ 0 = not_below 0 s.queue.offset c in omega (arith, low)); is = sym (same_Some _ _ h) }
 
 -- octets that may be read are as many as were asked for
-octets_many : (table : Table) (pd : ℕ) (stag : Stag) (to n : ℕ) (right : Right) → denial table pd stag to n right ≡ None → length (octets_at table stag to n) ≡ n
-octets_many table pd stag to n right none = elim (allows table pd stag to n right none) [
+octets_many : (table : Table) (peer : Peer) (stag : Stag) (to n : ℕ) (right : Right) → denial_for table peer stag to n right ≡ None → length (octets_at table stag to n) ≡ n
+octets_many table peer stag to n right none = elim (allows table peer stag to n right none) [
   | inl zero_is ↦ nothing (region_at table stag) zero_is
   | inr allowed ↦ some (region_at table stag) allowed.1
 ]
@@ -1215,7 +1216,7 @@ octets_many table pd stag to n right none = elim (allows table pd stag to n righ
     nothing None zero_is = omega (arith, zero_is)
     nothing (Some r) zero_is = omega (arith, zero_is, length-take n (drop (to - r.base) r.octets))
 
-    some : (o : Option Region) → IsSomeAnd o (λ r. Serves r to n right) → length (option_map_or (λ r. octets_from r to n) o []) ≡ n
+    some : (o : Option Region) → IsSomeAnd o (λ r. Serves r peer.stream to n right) → length (option_map_or (λ r. octets_from r to n) o []) ≡ n
     some None h = absurd h
     some (Some r) h = omega (arith, length-take n (drop (to - r.base) r.octets), length-drop (to - r.base) r.octets, h.from_base, h.to_end)
 
@@ -1237,7 +1238,7 @@ pub record Answers (table : Table) (s : StreamState) (t : Story) (from : ℕ) (f
   pub frame_is : frame ≡ frame_of s (response_segment oldest.request (length t.begun) last octets)
   pub stag_is : stag ≡ oldest.request.source
   pub to_is : to ≡ oldest.request.source_to + length t.begun
-  pub admitted : denial table s.domain stag to (length octets) rights.Read ≡ None
+  pub admitted : denial_for table (peer_of s) stag to (length octets) rights.Read ≡ None
   pub stand : octets ≡ octets_at table stag to (length octets)
 
 same_last : (size begun room n : ℕ) → begun ≤ size → n ≡ min (size - begun) room → nat_le (size - begun) room ≡ nat_eq (begun + n) size
@@ -1259,8 +1260,8 @@ pub answers_part : (table : Table) (s : StreamState) (t : Tale) (from : ℕ) (fr
 answers_part table s t from frame stag to octets p k =
     let w = part_is_of s p.part p.is_due in
     let fetched : s.asked.fetched ≡ length t.story.begun = k.fetched in
-    let admitted : denial table s.domain p.part.stag p.part.to p.part.n rights.Read ≡ None = no_denial (denial table s.domain p.part.stag p.part.to p.part.n rights.Read) p.admitted in
-    let many : length octets ≡ p.part.n = ap length p.octets_are ∙ octets_many table s.domain p.part.stag p.part.to p.part.n rights.Read admitted in
+    let admitted : denial_for table (peer_of s) p.part.stag p.part.to p.part.n rights.Read ≡ None = no_denial (denial_for table (peer_of s) p.part.stag p.part.to p.part.n rights.Read) p.admitted in
+    let many : length octets ≡ p.part.n = ap length p.octets_are ∙ octets_many table (peer_of s) p.part.stag p.part.to p.part.n rights.Read admitted in
     let n : p.part.n ≡ min (w.oldest.request.size - s.asked.fetched) (s.mulpdu - 14) = ap (λ (z : ResponsePart). z.n) w.is in
     let last : p.part.head.last ≡ nat_le (w.oldest.request.size - s.asked.fetched) (s.mulpdu - 14) = ap (λ (z : ResponsePart). z.head.last) w.is in
     let low : s.asked.fetched ≤ w.oldest.request.size = not_past s.asked.fetched w.oldest.request.size (subst (λ z. requests.IsBegun z s.asked.fetched) w.waiting k.begun) in
@@ -1285,7 +1286,7 @@ answers_part table s t from frame stag to octets p k =
       frame_is = p.frame_is ∙ ap (λ h. frame_of s (Tagged h octets)) head;
       stag_is = stag_is;
       to_is = to_is;
-      admitted = (λ i. denial table s.domain (p.stag_is i) (p.to_is i) (many i) rights.Read) ∙ admitted;
+      admitted = (λ i. denial_for table (peer_of s) (p.stag_is i) (p.to_is i) (many i) rights.Read) ∙ admitted;
       stand = p.octets_are ∙ (λ i. octets_at table (sym p.stag_is i) (sym p.to_is i) (sym many i));
     }
   where
@@ -2227,9 +2228,9 @@ owning o table c t act given own =
     }
 
 -- what an act changes lay where it may
-abbrev pub WithinTale : Table → ℕ → Tale → StreamAct Octets → Type 0
-WithinTale table domain t act =
-    OnSome (λ p. Allows table domain p.stag p.to (length p.octets) p.right) (deed act).placing
+abbrev pub WithinTale : Table → Peer → Tale → StreamAct Octets → Type 0
+WithinTale table peer t act =
+    OnSome (λ p. AllowsFor table peer p.stag p.to (length p.octets) p.right) (deed act).placing
     × OnSome (InBuffer t.story.receiving) (deed act).buffering
 
 -- octets that pass the checks lie in the buffer that their number names
@@ -2245,9 +2246,9 @@ in_buffer opening c t head payload msn mo len checked msn_is mo_is len_is o =
       },
     )
 
-pub within : (opening : Opening) (table : Table) (c : Connected) (t : Tale) (act : StreamAct Octets) → Told table c.stream act → Own opening c t → WithinTale table c.stream.domain t act
-within opening table c t (Work (seen.Placed right stag to octets)) (inl rule) o = (allows table c.stream.domain stag to (length octets) right rule.1.admitted, tt)
-within opening table c t (Work (seen.Placed right stag to octets)) (inr rule) o = (allows table c.stream.domain stag to (length octets) right rule.1.admitted, tt)
+pub within : (opening : Opening) (table : Table) (c : Connected) (t : Tale) (act : StreamAct Octets) → Told table c.stream act → Own opening c t → WithinTale table (peer_of c.stream) t act
+within opening table c t (Work (seen.Placed right stag to octets)) (inl rule) o = (allows table (peer_of c.stream) stag to (length octets) right rule.1.admitted, tt)
+within opening table c t (Work (seen.Placed right stag to octets)) (inr rule) o = (allows table (peer_of c.stream) stag to (length octets) right rule.1.admitted, tt)
 within opening table c t (Work (seen.Tried place)) rule o = (tt, tt)
 within opening table c t (Work (seen.Buffered msn mo len)) (inl (j, w)) o = in_buffer opening c t w.head w.payload msn mo len w.checked w.msn_is w.mo_is w.len_is o
 within opening table c t (Work (seen.Buffered msn mo len)) (inr (j, w)) o = in_buffer opening c t w.head w.payload msn mo len w.checked w.msn_is w.mo_is w.len_is o

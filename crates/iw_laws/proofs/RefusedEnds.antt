@@ -6,7 +6,7 @@ use Rattle.iw_octets.specs.declared.fault.Fault.{Fault}
 use Rattle.iw_octets.specs.declared.stag.Stag.{Stag}
 use Rattle.iw_memory.specs.declared.rights.Right.{Right}
 use Rattle.iw_memory.specs.declared.rights.Right.TheVariants as rights
-use Rattle.iw_memory.specs.Table.{empty, denial}
+use Rattle.iw_memory.specs.Table.{empty, denial_for}
 use Rattle.iw_queues.specs.declared.request.Kind.TheVariants as kinds
 use Rattle.iw_tagged.specs.declared.placing.Placed.{Placed}
 use Rattle.iw_stream.specs.declared.judging.Landing.{Landing}
@@ -85,14 +85,14 @@ by_early s base frame right stag to octets None is e = cc
 by_early s base frame right stag to octets (Some at) is e = e ∙ ap (seen_judged frame) (sym (early_lands s frame at is).0)
 
 -- what is placed was allowed
-placed_admitted : (s : Standing) (frame : Frame) (right : Right) (stag : Stag) (to : ℕ) (octets : Octets) → seen.Placed right stag to octets ≡ seen_judged frame (verdict s frame) → denial s.table s.domain stag to (length octets) right ≡ None
+placed_admitted : (s : Standing) (frame : Frame) (right : Right) (stag : Stag) (to : ℕ) (octets : Octets) → seen.Placed right stag to octets ≡ seen_judged frame (verdict s frame) → denial_for s.table s.peer stag to (length octets) right ≡ None
 placed_admitted s frame right stag to octets = go (verdict s frame) (lands_as s frame)
   where
-    tagged : (opcode : ℕ) (by : Right) (p : Placed) → LandsTagged s frame opcode by p → right ≡ by → stag ≡ p.stag → to ≡ p.to → octets ≡ payload_of (segment_in frame) → denial s.table s.domain stag to (length octets) right ≡ None
+    tagged : (opcode : ℕ) (by : Right) (p : Placed) → LandsTagged s frame opcode by p → right ≡ by → stag ≡ p.stag → to ≡ p.to → octets ≡ payload_of (segment_in frame) → denial_for s.table s.peer stag to (length octets) right ≡ None
     tagged opcode by p w a b c d =
-        (λ i. denial s.table s.domain ((b ∙ ap (λ (q : Placed). q.stag) w.place) i) ((c ∙ ap (λ (q : Placed). q.to) w.place) i) (length ((d ∙ ap payload_of w.carries) i)) (a i)) ∙ w.admitted
+        (λ i. denial_for s.table s.peer ((b ∙ ap (λ (q : Placed). q.stag) w.place) i) ((c ∙ ap (λ (q : Placed). q.to) w.place) i) (length ((d ∙ ap payload_of w.carries) i)) (a i)) ∙ w.admitted
 
-    go : (r : Result Landing Fault) → LandsAs s frame r → seen.Placed right stag to octets ≡ seen_judged frame r → denial s.table s.domain stag to (length octets) right ≡ None
+    go : (r : Result Landing Fault) → LandsAs s frame r → seen.Placed right stag to octets ≡ seen_judged frame r → denial_for s.table s.peer stag to (length octets) right ≡ None
     go (Err fault) w e = cc
     go (Ok (landing.Write p)) w e =
         let at : stag ≡ p.stag = cc in

@@ -20,6 +20,7 @@ use Rattle.iw_octets.proofs.Spelled.{length-request_octets, read_request-spelled
 use Rattle.iw_queues.specs.declared.request.Kind.TheVariants as kinds
 use Rattle.iw_queues.specs.Joined.{Cell, count_writes}
 use Rattle.iw_queues.specs.Segments.{request_segment, write_segment}
+use Rattle.iw_memory.specs.declared.peer.Peer.{Peer}
 use Rattle.iw_memory.specs.declared.rights.Right.TheVariants as rights
 use Rattle.iw_memory.specs.Table.{Table, empty}
 use Rattle.iw_rdmap.specs.Judging.{judged_segment}
@@ -273,8 +274,8 @@ refuses_denied_readable h =
     let w = takes_up read_two fits_two two_framed asks refl refl refl two_came in
     let same : w.asked ≡ r.oldest = ap (asked_or w.asked) (sym w.is ∙ r.waits.is) in
     let request : r.oldest.request ≡ read_two = ap (λ (z : Asked). z.request) (sym same) ∙ w.request in
-    let allowed : reading_fault s.table s.domain read_two.source (read_two.source_to + length t.begun) (faithful.octets_due t 128 read_two) ≡ None = refl in
-    none-some _ (sym (ap (λ (q : ReadRequest). reading_fault s.table s.domain q.source (q.source_to + length t.begun) (faithful.octets_due t 128 q)) request ∙ allowed) ∙ r.denied)
+    let allowed : reading_fault s.table s.peer read_two.source (read_two.source_to + length t.begun) (faithful.octets_due t 128 read_two) ≡ None = refl in
+    none-some _ (sym (ap (λ (q : ReadRequest). reading_fault s.table s.peer q.source (q.source_to + length t.begun) (faithful.octets_due t 128 q)) request ∙ allowed) ∙ r.denied)
 
 -- ---- responses that are too long, and too short
 
@@ -318,8 +319,8 @@ unfolding long_ulpdu
 long_size = refl
 
 -- it was not asked for
-not_asked : (table : Table) (domain ticket : ℕ) → response_verdict table domain (outstanding ticket) (response_head read_one 0 true) 5 ≡ Err faults.OPERATION_UNEXPECTED
-not_asked table domain ticket = refl
+not_asked : (table : Table) (peer : Peer) (ticket : ℕ) → response_verdict table peer (outstanding ticket) (response_head read_one 0 true) 5 ≡ Err faults.OPERATION_UNEXPECTED
+not_asked table peer ticket = refl
 
 pub refuses_places_past : RefusesPlacesPast
 unfolding acts stream_acts openings story numbers_ahead place_near before_start
@@ -333,8 +334,8 @@ refuses_places_past h =
     let reads : s.reads ≡ outstanding (asks.whole % 2 ^ 64) = ap (λ (z : Story). z.reads) (asked_story asks refl refl) ∙ asked_reads asks 1 in
     let judged : verdict s frame ≡ Err faults.OPERATION_UNEXPECTED =
     ap (λ o. head_verdict s (judged_segment o (length long_ulpdu) s.asked.next (length s.asked.unanswered)) (length (payload_of o))) long_carries
-    ∙ ap (λ z. response_verdict s.table s.domain z (response_head read_one 0 true) 5) reads
-    ∙ not_asked s.table s.domain (asks.whole % 2 ^ 64) in
+    ∙ ap (λ z. response_verdict s.table s.peer z (response_head read_one 0 true) 5) reads
+    ∙ not_asked s.table s.peer (asks.whole % 2 ^ 64) in
     let early : t.early ≡ [] = kept.early in
     elim (h (take 6 places_past) (a (works (seen.Placed rights.Sink stag 0 five))) [] refl).1 [
       | inl r ↦
@@ -368,8 +369,8 @@ unfolding short_ulpdu
 short_size = refl
 
 -- its turn is refused
-ends_short : (table : Table) (domain : ℕ) (r : Receiving) (ticket : ℕ) → segment_turn table domain r (outstanding ticket) 3 (Some (response_segment read_one 0 true three)) ≡ Err faults.PROTECTION_BOUNDS
-ends_short table domain r ticket = refl
+ends_short : (table : Table) (peer : Peer) (r : Receiving) (ticket : ℕ) → segment_turn table peer r (outstanding ticket) 3 (Some (response_segment read_one 0 true three)) ≡ Err faults.PROTECTION_BOUNDS
+ends_short table peer r ticket = refl
 
 pub refuses_ends_early : RefusesEndsEarly
 unfolding acts stream_acts openings story numbers_ahead place_near before_start
@@ -384,7 +385,7 @@ refuses_ends_early h =
     let same : r.frame ≡ frame = same_Some _ _ (sym r.is_next ∙ next) in
     let reads : s.reads ≡ outstanding (asks.whole % 2 ^ 64) = ap (λ (z : Story). z.reads) (asked_story asks refl refl) ∙ asked_reads asks 1 in
     let turn : turn_of s (placed frame) ≡ Err faults.PROTECTION_BOUNDS =
-    turn_kept s frame (response_segment read_one 0 true three) short_carries ∙ ap (λ z. segment_turn s.table s.domain s.receiving z 3 (Some (response_segment read_one 0 true three))) reads ∙ ends_short s.table s.domain s.receiving (asks.whole % 2 ^ 64) in
+    turn_kept s frame (response_segment read_one 0 true three) short_carries ∙ ap (λ z. segment_turn s.table s.peer s.receiving z 3 (Some (response_segment read_one 0 true three))) reads ∙ ends_short s.table s.peer s.receiving (asks.whole % 2 ^ 64) in
     let wrong : seen.Passed ≡ seen.Fault faults.PROTECTION_BOUNDS = r.answer ∙ ap (λ f. seen_turned s.receiving (placed f) (turn_of s (placed f))) same ∙ ap (seen_turned s.receiving (placed frame)) turn in
     cc
 

@@ -21,7 +21,7 @@ use Rattle.iw_fpdu.specs.declared.fpdu.Mismatch.{Mismatch}
 use Rattle.iw_memory.specs.declared.refusal.Deny.{Deny}
 use Rattle.iw_memory.specs.declared.rights.Right.{Right}
 use Rattle.iw_memory.specs.declared.rights.Right.TheVariants as rights
-use Rattle.iw_memory.specs.Table.{Table, denial, put, octets_at}
+use Rattle.iw_memory.specs.Table.{Table, put, octets_at, denial_for}
 use Rattle.iw_memory.proofs.Callers.{octets_at-put}
 use Rattle.iw_rdmap.specs.declared.head.Head.{Head}
 use Rattle.iw_rdmap.specs.declared.head.Head.TheVariants as heads
@@ -126,7 +126,7 @@ pub record LandsTagged (at : Standing) (frame : Frame) (opcode : ℕ) (right : R
   pub carries : segment_in frame ≡ Some (Tagged head payload)
   pub is : opcode_of head.control ≡ opcode
   pub place : p ≡ place_in head (length payload)
-  pub admitted : denial at.table at.domain head.stag head.to (length payload) right ≡ None
+  pub admitted : denial_for at.table at.peer head.stag head.to (length payload) right ≡ None
 
 -- a Send's segment, whose buffer is there
 pub record LandsSend (at : Standing) (frame : Frame) (msn mo len : ℕ) : Type 0 where
@@ -147,7 +147,7 @@ pub record LandsRequest (at : Standing) (frame : Frame) (request : ReadRequest) 
   pub queue : head.queue ≡ 1
   pub is : request ≡ request_fields payload
   pub checked : request_fault head (length frame.ulpdu - 18) at.asked.next (length at.asked.unanswered) ≡ None
-  pub admitted : source_fault at.table at.domain request ≡ None
+  pub admitted : source_fault at.table at.peer request ≡ None
 
 -- the peer's Terminate
 pub record LandsTerminate (frame : Frame) : Type 0 where
@@ -180,16 +180,16 @@ lands_as at frame = whole frame.mismatch
   where
     tagged : (head : TaggedHead) (payload : Octets) → segment_in frame ≡ Some (Tagged head payload) → (r : Result Head Fault) → TaggedAs head r → LandsAs at frame (head_verdict at r (length payload))
     tagged head payload carries (Err fault) t = tt
-    tagged head payload carries (Ok (heads.Write h)) t = subst (λ z. LandsAs at frame (head_verdict at (Ok (heads.Write z)) (length payload))) (sym t.0) (go (placing_fault at.table at.domain head (length payload) rights.Write) refl)
+    tagged head payload carries (Ok (heads.Write h)) t = subst (λ z. LandsAs at frame (head_verdict at (Ok (heads.Write z)) (length payload))) (sym t.0) (go (placing_fault at.table at.peer head (length payload) rights.Write) refl)
       where
-        go : (f : Option Fault) → placing_fault at.table at.domain head (length payload) rights.Write ≡ f → LandsAs at frame (fault_or f (landing.Write (place_in head (length payload))))
+        go : (f : Option Fault) → placing_fault at.table at.peer head (length payload) rights.Write ≡ f → LandsAs at frame (fault_or f (landing.Write (place_in head (length payload))))
         go (Some fault) e = tt
-        go None e = record { head = head; payload = payload; carries = carries; is = t.1; place = refl; admitted = undenied (denial at.table at.domain head.stag head.to (length payload) rights.Write) e }
+        go None e = record { head = head; payload = payload; carries = carries; is = t.1; place = refl; admitted = undenied (denial_for at.table at.peer head.stag head.to (length payload) rights.Write) e }
     tagged head payload carries (Ok (heads.Response h)) t =
         subst (λ z. LandsAs at frame (head_verdict at (Ok (heads.Response z)) (length payload))) (sym t.0)
-        (go (or_else (sink_fault at.reads head (length payload)) (placing_fault at.table at.domain head (length payload) rights.Sink)) refl)
+        (go (or_else (sink_fault at.reads head (length payload)) (placing_fault at.table at.peer head (length payload) rights.Sink)) refl)
       where
-        go : (f : Option Fault) → or_else (sink_fault at.reads head (length payload)) (placing_fault at.table at.domain head (length payload) rights.Sink) ≡ f
+        go : (f : Option Fault) → or_else (sink_fault at.reads head (length payload)) (placing_fault at.table at.peer head (length payload) rights.Sink) ≡ f
             → LandsAs at frame (fault_or f (landing.Response (place_in head (length payload))))
         go (Some fault) e = tt
         go None e = record {
@@ -198,7 +198,7 @@ lands_as at frame = whole frame.mismatch
           carries = carries;
           is = t.1;
           place = refl;
-          admitted = unfaulted (sink_fault at.reads head (length payload)) (denial at.table at.domain head.stag head.to (length payload) rights.Sink) e;
+          admitted = unfaulted (sink_fault at.reads head (length payload)) (denial_for at.table at.peer head.stag head.to (length payload) rights.Sink) e;
         }
     tagged head payload carries (Ok (heads.Send h)) t = absurd t
     tagged head payload carries (Ok (heads.Request h request)) t = absurd t
@@ -213,9 +213,9 @@ lands_as at frame = whole frame.mismatch
         go : (f : Option Fault) → buffer_fault at.receiving head.msn head.mo (length payload) ≡ f → LandsAs at frame (fault_or f (landing.Send head.msn head.mo (length payload)))
         go (Some fault) e = tt
         go None e = record { head = head; payload = payload; carries = carries; queue = t.1; checked = e; msn_is = refl; mo_is = refl; len_is = refl }
-    untagged head payload carries (Ok (heads.Request h request)) t = go (source_fault at.table at.domain request) refl
+    untagged head payload carries (Ok (heads.Request h request)) t = go (source_fault at.table at.peer request) refl
       where
-        go : (f : Option Fault) → source_fault at.table at.domain request ≡ f → LandsAs at frame (fault_or f (landing.Request request))
+        go : (f : Option Fault) → source_fault at.table at.peer request ≡ f → LandsAs at frame (fault_or f (landing.Request request))
         go (Some fault) e = tt
         go None e = record { head = head; payload = payload; carries = carries; queue = t.1; is = t.2; checked = t.3; admitted = e }
     untagged head payload carries (Ok (heads.Write h)) t = absurd t
@@ -252,9 +252,9 @@ early_lands at frame x e = go (judged_head at frame.ulpdu) refl e
     go : (h : Result Head Fault) → judged_head at frame.ulpdu ≡ h → cond (may_be_early h) (landing_in (verdict at frame)) None ≡ Some x → (verdict at frame ≡ Ok x) × HasPlace x
     go (Err fault) is h = absurd (none-some _ h)
     go (Ok (heads.Write head)) is h =
-        by frame.mismatch (placing_fault at.table at.domain head n rights.Write) (landing.Write (place_in head n)) tt (verdict at frame) (whole (heads.Write head) is) h
+        by frame.mismatch (placing_fault at.table at.peer head n rights.Write) (landing.Write (place_in head n)) tt (verdict at frame) (whole (heads.Write head) is) h
     go (Ok (heads.Response head)) is h =
-        by frame.mismatch (or_else (sink_fault at.reads head n) (placing_fault at.table at.domain head n rights.Sink)) (landing.Response (place_in head n)) tt (verdict at frame) (whole (heads.Response head) is) h
+        by frame.mismatch (or_else (sink_fault at.reads head n) (placing_fault at.table at.peer head n rights.Sink)) (landing.Response (place_in head n)) tt (verdict at frame) (whole (heads.Response head) is) h
     go (Ok (heads.Send head)) is h = by frame.mismatch (buffer_fault at.receiving head.msn head.mo n) (landing.Send head.msn head.mo n) tt (verdict at frame) (whole (heads.Send head) is) h
     go (Ok (heads.Request head request)) is h = absurd (none-some _ h)
     go (Ok (heads.Terminate head word)) is h = absurd (none-some _ h)
@@ -263,7 +263,7 @@ early_lands at frame x e = go (judged_head at frame.ulpdu) refl e
 pub stands : (at : Standing) (frame : Frame) (opcode : ℕ) (right : Right) (p : Placed) → (w : LandsTagged at frame opcode right p) → octets_at (put at.table p.stag p.to (payload_of (segment_in frame))) p.stag p.to p.n ≡ w.payload
 stands at frame opcode right p w =
     (λ i. octets_at (put at.table (w.place i).stag (w.place i).to (payload_of (w.carries i))) (w.place i).stag (w.place i).to (w.place i).n)
-    ∙ octets_at-put at.table at.domain w.head.stag w.head.to w.payload right w.admitted
+    ∙ octets_at-put at.table at.peer w.head.stag w.head.to w.payload right w.admitted
 
 -- what is shown of a frame that is judged leaves the regions as the frame does
 abbrev ShowsTable : Standing → StartState → Frame → Result Landing Fault → Type 0

@@ -28,7 +28,7 @@ use Rattle.iw_stream.specs.Judging.{fault_or}
 use Rattle.iw_startup.specs.declared.enhanced.Rtr.{Rtr}
 use Rattle.iw_startup.specs.declared.enhanced.Rtr.TheVariants as rtrs
 use Rattle.iw_stream.specs.Rtr.{rtr_stag, rtr_request, rtr_message, rtr_segment}
-use Rattle.iw_stream.specs.Stream.{StreamState, Due, StartUp, LastWord, Response, NextPart, NoneDue, ended, post_refusal, post_refusal_of, owes_frame, keeps_silent, is_read, may_go, part_due, response_due, due, frame_of, frame_of_part, frame_of_terminate, octets_due, octets_fetched, emission_due, emission_fetched, emission_of, emitted, Ready, rtr_due, frame_of_rtr}
+use Rattle.iw_stream.specs.Stream.{StreamState, Due, StartUp, LastWord, Response, NextPart, NoneDue, ended, post_refusal, post_refusal_of, owes_frame, keeps_silent, is_read, may_go, part_due, response_due, due, frame_of, frame_of_part, frame_of_terminate, octets_due, octets_fetched, emission_due, emission_fetched, emission_of, emitted, Ready, rtr_due, frame_of_rtr, peer_of}
 use Rattle.iw_reads.specs.declared.response.ResponsePart.{ResponsePart}
 use Rattle.iw_reads.specs.Response.{response_head, fetch_fault, fetched_octets}
 use Rattle.iw_memory.specs.Table.{Table, octets_at}
@@ -199,7 +199,7 @@ pub record EmitsResponse (table : Table) (s : StreamState) (from : ℕ) (frame :
   pub stag_is : stag ≡ part.stag
   pub to_is : to ≡ part.to
   pub octets_are : octets ≡ octets_at table part.stag part.to part.n
-  pub admitted : fetch_fault table s.domain part ≡ None
+  pub admitted : fetch_fault table (peer_of s) part ≡ None
 
 -- the octets of the part that is due are denied
 pub record EmitsDenial (table : Table) (s : StreamState) (fault : Fault) : Type 0 where
@@ -207,7 +207,7 @@ pub record EmitsDenial (table : Table) (s : StreamState) (fault : Fault) : Type 
   pub speaks : MaySpeak s
   pub unready : rtr_due s ≡ None
   pub is_due : response_due s ≡ Some part
-  pub denied : fetch_fault table s.domain part ≡ Some fault
+  pub denied : fetch_fault table (peer_of s) part ≡ Some fault
 
 -- nothing is emitted
 pub record EmitsNothing (s : StreamState) : Type 0 where
@@ -225,14 +225,14 @@ Emits_as table s Nothing = EmitsNothing s
 pub emits_as : (table : Table) (s : StreamState) (shown : Shown Octets) → shown ≡ shown_of table (emission_of table s) (emitted table s) → Emits_as table s shown
 emits_as table s shown e = subst (Emits_as table s) (sym e) (go (due s) refl (due_told s))
   where
-    fetched : (part : ResponsePart) → MaySpeak s → rtr_due s ≡ None → response_due s ≡ Some part → (f : Option Fault) → fetch_fault table s.domain part ≡ f
+    fetched : (part : ResponsePart) → MaySpeak s → rtr_due s ≡ None → response_due s ≡ Some part → (f : Option Fault) → fetch_fault table (peer_of s) part ≡ f
         → Emits_as table s (shown_of table (emission_fetched s part (fault_or f (frame_of s (Tagged part.head (fetched_octets table part))))) (octets_fetched (fault_or f (frame_of s (Tagged part.head (fetched_octets table part))))))
     fetched part speaks unready due None c = record { part = part; speaks = speaks; unready = unready; is_due = due; from_is = refl; frame_is = refl; stag_is = refl; to_is = refl; octets_are = refl; admitted = c }
     fetched part speaks unready due (Some fault) c = record { part = part; speaks = speaks; unready = unready; is_due = due; denied = c }
 
     go : (d : Due) → due s ≡ d → IsDue s d → Emits_as table s (shown_of table (emission_due table s d) (octets_due table s d))
     go StartUp is t = inl (record { owes = t; next = is; from_is = refl; octets_are = refl })
-    go (Response part) is t = fetched part t.0 t.1 t.2 (fetch_fault table s.domain part) refl
+    go (Response part) is t = fetched part t.0 t.1 t.2 (fetch_fault table (peer_of s) part) refl
     go (LastWord payload) is t = inr (inl (record { spoken = t.0; payload = payload; is_due = t.1; next = is; from_is = refl; octets_are = refl }))
     go (Ready rtr) is t = inr (inr (inl (record { rtr = rtr; speaks = t.0; is_due = t.1; next = is; from_is = refl; octets_are = refl })))
     go (NextPart part) is t = inr (inr (inr (record { part = part; is_loud = t; next = is; from_is = refl; octets_are = refl })))

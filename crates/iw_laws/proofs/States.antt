@@ -19,7 +19,7 @@ use Rattle.iw_stream.specs.Starting.{agreement_in}
 use Rattle.iw_stream.specs.declared.answer.RecvRefusal.TheVariants as recv_refusals
 use Rattle.iw_stream.proofs.Sharing.{left_alone}
 use Rattle.iw_stream.proofs.Sharing.{work_shares}
-use Rattle.iw_stream.specs.Stream.{StreamState, shares, sees, ended, recv_refusal_of, Due, StartUp, LastWord, Response as ResponseDue, NextPart, NoneDue, due, emission_of, emitted, emission_due, octets_due, emission_fetched, octets_fetched, frame_fetched, opened, with_buffer, with_request, with_mulpdu, accepted, rejected, breaks, after_emit, after_deliver, recv_refusal, post_refusal, size_refusal, answer_refusal, with_first, first_refusal, Ready}
+use Rattle.iw_stream.specs.Stream.{StreamState, shares, sees, ended, recv_refusal_of, Due, StartUp, LastWord, Response as ResponseDue, NextPart, NoneDue, due, emission_of, emitted, emission_due, octets_due, emission_fetched, octets_fetched, frame_fetched, opened, with_buffer, with_request, with_mulpdu, accepted, rejected, breaks, after_emit, after_deliver, recv_refusal, post_refusal, size_refusal, answer_refusal, with_first, first_refusal, Ready, peer_of}
 use Rattle.iw_stream.specs.Work.{worked}
 use Rattle.iw_endpoint.specs.declared.refusal.CallRefusal.TheVariants.{Refused}
 use Rattle.iw_endpoint.specs.Endpoint as endpoint
@@ -42,12 +42,13 @@ pub record Connected : Type 0 where
   pub stream : StreamState
   pub wire : List ℕ
 
-abbrev pub connected : Opening → Connected
-connected o = record { stream = record (opened o.domain o.role o.config) { receiving = first_queue o.shared }; wire = [] }
+-- a stream that was opened under this number
+abbrev pub connected : Opening → Option ℕ → Connected
+connected o number = record { stream = record (opened o.domain o.role o.config) { number = number; receiving = first_queue o.shared }; wire = [] }
 
--- one to which nothing has happened, in no domain
+-- one to which nothing has happened, in no domain and under no number
 abbrev pub unconnected : Connected
-unconnected = connected no_opening
+unconnected = connected no_opening None
 
 abbrev pub connected_at : EndState → ℕ → Connected
 connected_at s n = record { stream = stream_at s.endpoint n; wire = wire_at s n }
@@ -90,9 +91,9 @@ own_pool table None s none = refl
 own_pool table (Some pool) s none = ap Some (left_alone {A = Unit {0}} {E = Unit {0}} table table s (sees s pool) (worked table (sees s pool)) pool (Ok tt) refl refl tt none)
 
 -- a step alone sees it
-pub lent_domain : (o : Option (List Octets)) (s : StreamState) → (lent_to o s).domain ≡ s.domain
-lent_domain None s = refl
-lent_domain (Some pool) s = refl
+pub lent_peer : (o : Option (List Octets)) (s : StreamState) → peer_of (lent_to o s) ≡ peer_of s
+lent_peer None s = refl
+lent_peer (Some pool) s = refl
 
 module _ (table : Table) (s : StreamState) (pool : List Octets) where
   shown_lent : shown_of table (emission_of table s) (emitted table s) ≡ shown_of table (emission_of table (sees s pool)) (emitted table (sees s pool))
@@ -172,9 +173,9 @@ abbrev pub left_at : EndpointState → ℕ → StreamAct Octets → StreamState
 left_at e n act = option_map_or (λ step. left_of e.table (pool_of e (stream_at e n).domain) (stream_at e n)) (deed act).step (stream_after e.table (stream_at e n) act)
 
 abbrev pub streams_after : EndpointState → Act Octets → List (Option StreamState)
-streams_after e (Open n pd role options private None) = slice_set e.streams n (Some (connected (opening_by false pd role options private)).stream)
+streams_after e (Open n pd role options private None) = slice_set e.streams n (Some (connected (opening_by false pd role options private) (Some n)).stream)
 streams_after e (Open n pd role options private (Some refusal)) = e.streams
-streams_after e (OpenShared n pd role options private None) = slice_set e.streams n (Some (connected (opening_by true pd role options private)).stream)
+streams_after e (OpenShared n pd role options private None) = slice_set e.streams n (Some (connected (opening_by true pd role options private) (Some n)).stream)
 streams_after e (OpenShared n pd role options private (Some refusal)) = e.streams
 streams_after e (Stream n act) = slice_set e.streams n (Some (left_at e n act))
 streams_after e (Domain pd refused) = e.streams

@@ -15,7 +15,7 @@ use Rattle.iw_octets.specs.Operation.{opcode_of, untagged_operation}
 use Rattle.iw_octets.specs.Payload.{request_fields}
 use Rattle.iw_memory.specs.declared.rights.Right.{Right}
 use Rattle.iw_memory.specs.declared.rights.Right.TheVariants as rights
-use Rattle.iw_memory.specs.Table.{Table, denial, put, octets_at}
+use Rattle.iw_memory.specs.Table.{Table, put, octets_at, denial_for}
 use Rattle.iw_fpdu.specs.Sequence.{Carried}
 use Rattle.iw_queues.specs.declared.completions.Done.{Done}
 use Rattle.iw_queues.specs.declared.request.Kind.{Kind}
@@ -58,7 +58,7 @@ use Rattle.iw_stream.specs.Judging.{or_else, fault_or, is_solicited, stag_to_inv
 use Rattle.iw_stream.specs.Starting.{StartState, AtOnce, Unheard, Heard, is_open, own_frame, awaits_frame, expecting, first_place_in, progress_in, heard, agreement_in, private_in, told_in, mismatch_in, negotiation_fault, answered_with}
 use Rattle.iw_startup.specs.declared.enhanced.Rtr.{Rtr}
 use Rattle.iw_stream.specs.Rtr.{rtr_message}
-use Rattle.iw_stream.specs.Stream.{StreamState, Due, StartUp, LastWord, Response, NextPart, NoneDue, ended, ends, ends_by, due, owes_frame, is_mute, part_due, response_due, frame_of_part, frame_of_terminate, frame_fetched, reads_with, octets_due, octets_fetched, emission_due, emission_fetched, emission_of, emitted, left_due, left_fetched, with_buffer, with_request, with_mulpdu, after_emit, after_deliver, accepted, with_first, quits, over, Ready, frame_of_rtr, rtr_due}
+use Rattle.iw_stream.specs.Stream.{StreamState, Due, StartUp, LastWord, Response, NextPart, NoneDue, ended, ends, ends_by, due, owes_frame, is_mute, part_due, response_due, frame_of_part, frame_of_terminate, frame_fetched, reads_with, octets_due, octets_fetched, emission_due, emission_fetched, emission_of, emitted, left_due, left_fetched, with_buffer, with_request, with_mulpdu, after_emit, after_deliver, accepted, with_first, quits, over, Ready, frame_of_rtr, rtr_due, peer_of}
 use Rattle.iw_startup.specs.declared.side.Reply.TheVariants.{Reject as Rejecting}
 use Rattle.iw_stream.specs.Work.{Task, Hear, Turn, Clash, Judge, Try, inbox, scene, next_frame, early_frame, waiting, clashes, clash_fault, hears, heard_step, opened_step, turned_step, judged_step, tried_step, step_of, after_hearing, after_opening, after_turn, after_judging, after_trying, left_by, table_judged, table_passed, table_left, work_step, worked, table_worked}
 use Rattle.iw_stream.specs.Work as work
@@ -299,7 +299,7 @@ pub record SeesEarly (table : Table) (s : StreamState) (right : Right) (stag : S
   pub head : TaggedHead
   pub carries : frames.segment_in frame ≡ Some (Tagged head octets)
   pub kind : IsPlacedBy head right
-  pub admitted : denial table s.domain stag to (length octets) right ≡ None
+  pub admitted : denial_for table (peer_of s) stag to (length octets) right ≡ None
   pub stag_is : stag ≡ head.stag
   pub to_is : to ≡ head.to
 
@@ -308,7 +308,7 @@ pub record SeesPlaced (table : Table) (s : StreamState) (right : Right) (stag : 
   pub head : TaggedHead
   pub fronts : Fronts s false (Tagged head octets)
   pub kind : IsPlacedBy head right
-  pub admitted : denial table s.domain stag to (length octets) right ≡ None
+  pub admitted : denial_for table (peer_of s) stag to (length octets) right ≡ None
   pub stag_is : stag ≡ head.stag
   pub to_is : to ≡ head.to
 
@@ -533,7 +533,7 @@ module _ (table : Table) (s : StreamState) (k : Sound s) (runs : IsRunning s) wh
             head = w.head;
             fronts = fronts clear (Tagged w.head w.payload) w.carries;
             kind = elim kind [ inl z ↦ inl (z.0, w.is ∙ z.1) | inr z ↦ inr (z.0, w.is ∙ z.1) ];
-            admitted = (λ i. denial table s.domain (stag i) (to i) (length w.payload) right) ∙ w.admitted;
+            admitted = (λ i. denial_for table (peer_of s) (stag i) (to i) (length w.payload) right) ∙ w.admitted;
             stag_is = stag;
             to_is = to;
           },
@@ -635,7 +635,7 @@ module _ (table : Table) (s : StreamState) (k : Sound s) (runs : IsRunning s) wh
             head = w.head;
             carries = w.carries;
             kind = elim kind [ inl z ↦ inl (z.0, w.is ∙ z.1) | inr z ↦ inr (z.0, w.is ∙ z.1) ];
-            admitted = (λ i. denial table s.domain (stag i) (to i) (length w.payload) right) ∙ w.admitted;
+            admitted = (λ i. denial_for table (peer_of s) (stag i) (to i) (length w.payload) right) ∙ w.admitted;
             stag_is = stag;
             to_is = to;
           },
@@ -737,9 +737,9 @@ module _ (table : Table) (s : StreamState) (k : Sound s) (runs : IsRunning s) wh
         by true b = turns b (response_turn_fault s.reads head (length payload)) refl
         by false b = (passes (λ x. absurd (false≢true (sym b ∙ x))), ends None (ap (λ z. cond z (finished_read s.reads head) None) b))
 
-    as_of : (g : Segment Octets) → segment ≡ g → Turned_as (segment_turn table s.domain s.receiving s.reads (length (payload_of (Some g))) (Some g))
+    as_of : (g : Segment Octets) → segment ≡ g → Turned_as (segment_turn table (peer_of s) s.receiving s.reads (length (payload_of (Some g))) (Some g))
     as_of (Tagged head payload) e = as_tagged head payload e
-    as_of (Untagged head payload) e = go (turn_fault s.receiving head.msn head.mo) refl (invalidation_fault table s.domain (send_turning head)) head.last refl
+    as_of (Untagged head payload) e = go (turn_fault s.receiving head.msn head.mo) refl (invalidation_fault table (peer_of s) (send_turning head)) head.last refl
       where
         go : (f : Option Fault) → turn_fault s.receiving head.msn head.mo ≡ f → (g : Option Fault) → (last : Bool) → head.last ≡ last
             → Turned_as (fault_or (or_else f g) (cond last (turning.Completed (is_solicited (untagged_operation (opcode_of head.control))) (stag_to_invalidate head)) turning.Passed))

@@ -6,6 +6,7 @@ use Rattle.std.proofs.lemmas.List.{append-nil}
 use Rattle.std.proofs.lemmas.Bool.{eq-eqb, false≢true, true≢false}
 use Rattle.iw_ranges.specs.Nearest.{place_near, before_start}
 use Rattle.iw_octets.specs.Segment.{segment_octets}
+use Rattle.iw_memory.specs.declared.peer.Peer.{Peer}
 use Rattle.iw_memory.specs.Table.{Table}
 use Rattle.iw_ranges.specs.declared.Delivery.TheVariants.{Kept, Dropped}
 use Rattle.iw_ranges.specs.Arrived.{nothing, taken_in, advanced}
@@ -202,17 +203,17 @@ first_ready Preset config = refl
 first_ready Initiator config = refl
 first_ready Responder config = refl
 
-no_emits : (o : Opening) → Emits (connected o).stream (tale_of o [])
+no_emits : (o : Opening) (number : Option ℕ) → Emits (connected o number).stream (tale_of o [])
 unfolding posted handed_kinds size_set sent story
-no_emits o = record {
+no_emits o number = record {
   segments = [];
-  kept = (connected o).stream.queue;
+  kept = (connected o number).stream.queue;
   before = [];
   left = [];
   done = 0;
   asking = [];
   live = λ h. record { queue = refl; handed = refl };
-  merges = same_merges refl refl refl refl (λ i. first_ready o.role o.config i ++ []) refl (merges_none (connected o).stream.queue refl refl);
+  merges = same_merges refl refl refl refl (λ i. first_ready o.role o.config i ++ []) refl (merges_none (connected o number).stream.queue refl refl);
   spoken = inl refl;
   asks = record { reads = refl; asked = refl; fetched = refl; begun = refl; few = omega arith };
   good = tt;
@@ -247,9 +248,9 @@ no_emits o = record {
   whole = omega (arith, ap length (first_ready o.role o.config));
 }
 
-no_track : (o : Opening) → OpensFit o → Track (connected o).stream (tale_of o [])
+no_track : (o : Opening) (number : Option ℕ) → OpensFit o → Track (connected o number).stream (tale_of o [])
 unfolding received placings story
-no_track o asks = record {
+no_track o number asks = record {
   intro = [];
   begins = record {
     start = refl;
@@ -283,7 +284,7 @@ no_track o asks = record {
   early = record {
     records_are = refl;
     unopened = λ h. refl;
-    judged = none_judged (scene (connected o).stream) refl;
+    judged = none_judged (scene (connected o number).stream) refl;
     clear = λ f h. absurd (none-some _ h);
     written_are = λ c. refl;
     sunk_are = λ c. refl;
@@ -300,28 +301,28 @@ no_track o asks = record {
   tells = record { answered_are = refl; asked_are = refl };
 }
 
-no_own : (o : Opening) → OpensFit o → Own o (connected o) (tale_of o [])
+no_own : (o : Opening) (number : Option ℕ) → OpensFit o → Own o (connected o number) (tale_of o [])
 unfolding sent received ended story finished_kinds handed_kinds spans_placed
-no_own o asks = record {
+no_own o number asks = record {
   wire = refl;
   sent = refl;
   due = refl;
   numbered = record { first = refl; delivered = refl };
   starts = starts_at_first o;
-  emits = no_emits o;
-  track = no_track o asks;
+  emits = no_emits o number;
+  track = no_track o number asks;
   doing = record { answered = omega arith; among = omega arith };
   ended = refl;
   paid = record { paid = omega arith };
-  once = record { known = []; are = refl; spent = none_spent (scene (connected o).stream) None; bare = λ h. refl };
-  fills = nothing_placed (connected o).stream (tale_of o []) refl refl refl refl;
+  once = record { known = []; are = refl; spent = none_spent (scene (connected o number).stream) None; bare = λ h. refl };
+  fills = nothing_placed (connected o number).stream (tale_of o []) refl refl refl refl;
 }
 
-nothing_left : (o : Opening) → IsLeft (connected o).stream (connected o).stream
-nothing_left o = Still (equal_has refl) (nothing_given (scene (connected o).stream) held_nothing)
+nothing_left : (o : Opening) (number : Option ℕ) → IsLeft (connected o number).stream (connected o number).stream
+nothing_left o number = Still (equal_has refl) (nothing_given (scene (connected o number).stream) held_nothing)
 
-no_holds : (o : Opening) → OpensFit o → Holds o (connected o) (tale_of o [])
-no_holds o asks = record { stream = (connected o).stream; is_left = nothing_left o; own = no_own o asks }
+no_holds : (o : Opening) (number : Option ℕ) → OpensFit o → Holds o (connected o number) (tale_of o [])
+no_holds o number asks = record { stream = (connected o number).stream; is_left = nothing_left o number; own = no_own o number asks }
 
 -- nothing came of it
 nothing_of : (o : Opening) (octets : List ℕ) → IsOf (tale_of o []).story.came octets
@@ -329,10 +330,10 @@ unfolding story
 nothing_of o octets = of_nothing octets
 
 -- a stream to which nothing has happened is opened
-reopened : (o l m : Opening) (c : Connected) (shared : Bool) (queue : Receiving) (done : List (StreamAct Octets)) (d : Connected) (u : Tale) → OpensFit o → done ≡ []
-    → Pair l c (told_by shared l done queue) m d u → Pair o (connected o) (tale_of o []) m d u
-reopened o l m c shared queue done d u asks none p = record {
-  own = no_holds o asks;
+reopened : (o l m : Opening) (number : Option ℕ) (c : Connected) (shared : Bool) (queue : Receiving) (done : List (StreamAct Octets)) (d : Connected) (u : Tale) → OpensFit o → done ≡ []
+    → Pair l c (told_by shared l done queue) m d u → Pair o (connected o number) (tale_of o []) m d u
+reopened o l m number c shared queue done d u asks none p = record {
+  own = no_holds o number asks;
   own_peer = p.own_peer;
   out = λ raw. subst (IsOf u.story.came) (ap sent none) (p.out raw);
   back = λ raw. nothing_of o u.sent;
@@ -379,17 +380,17 @@ nothing_sent = refl
 
 -- a stream is opened
 opened_pair : (s : EndState) (done : List (Act Octets)) (act : Act Octets) (m n : ℕ) (o l : Opening) (d : Connected) (u : Tale) → EndSeen s done → EndRule s.endpoint act → Opens s m → OpensFit o → openings_by n act ≡ cond (eqb m n) (o ∷ []) []
-    → streams_after s.endpoint act ≡ slice_set s.endpoint.streams m (Some (connected o).stream) → stream_acts_by n act ≡ [] → Pair (opening_of n done) (connected_at s n) (tale n done) l d u
+    → streams_after s.endpoint act ≡ slice_set s.endpoint.streams m (Some (connected o (Some m)).stream) → stream_acts_by n act ≡ [] → Pair (opening_of n done) (connected_at s n) (tale n done) l d u
     → Pair (opening_of n (done ++ act ∷ [])) (connected_at (end_after s act) n) (tale n (done ++ act ∷ [])) l d u
 opened_pair s done act m n o l d u k rule new asks one left silent p = go (eqb m n) refl
   where
     go : (b : Bool) → eqb m n ≡ b → Pair (opening_of n (done ++ act ∷ [])) (connected_at (end_after s act) n) (tale n (done ++ act ∷ [])) l d u
-    go false e = same_stream s act n done l d u rule (ap (λ xs. slice_index_or xs n None) left ∙ at_other s m n (Some (connected o).stream) e) (one ∙ opening_none (eqb m n) o e) silent p
+    go false e = same_stream s act n done l d u rule (ap (λ xs. slice_index_or xs n None) left ∙ at_other s m n (Some (connected o (Some m)).stream) e) (one ∙ opening_none (eqb m n) o e) silent p
     go true e =
         let same : m ≡ n = eqb-true m n e in
         let room : m < length s.endpoint.streams = omega (arith, new.number, k.numbers) in
-        let here : stream_of (end_after s act).endpoint n ≡ Some (connected o).stream =
-        at_act s.endpoint act n rule ∙ ap (λ xs. slice_index_or xs n None) left ∙ subst (λ j. slice_index_or (slice_set s.endpoint.streams m (Some (connected o).stream)) j None ≡ Some (connected o).stream) same (at_same s m (connected o).stream room) in
+        let here : stream_of (end_after s act).endpoint n ≡ Some (connected o (Some m)).stream =
+        at_act s.endpoint act n rule ∙ ap (λ xs. slice_index_or xs n None) left ∙ subst (λ j. slice_index_or (slice_set s.endpoint.streams m (Some (connected o (Some m)).stream)) j None ≡ Some (connected o (Some m)).stream) same (at_same s m (connected o (Some m)).stream room) in
         let closed : has_stream s.endpoint n ≡ false = subst (λ j. has_stream s.endpoint j ≡ false) same new.fresh in
         let before : openings n done ≡ [] = unopened (openings n done) (sym (k.opened n) ∙ closed) in
         let now : opening_of n (done ++ act ∷ []) ≡ o = ap opening_in (openings-push n done act ∙ (λ i. before i ++ (one ∙ opening_one (eqb m n) o e) i)) in
@@ -397,7 +398,7 @@ opened_pair s done act m n o l d u k rule new asks one left silent p = go (eqb m
         let queue : (pooling (done ++ act ∷ [])).queues n ≡ sharing = same_queue n done act silent ∙ queue_unused n done (k.unused n closed) in
         let quiet : [] ≡ wire_at (end_after s act) n = sym (wire_still s act n silent ∙ p.own.own.wire ∙ ap sent (k.unused n closed) ∙ nothing_sent) in
         moved l d u (sym now) (λ i. record { stream = unwrap_or (sym here i) no_stream; wire = quiet i }) (sym (first_told o) ∙ (λ i. told_by (sym now i).shared (sym now i) (sym none i) (sym queue i)))
-        (reopened o (opening_of n done) l (connected_at s n) (opening_of n done).shared ((pooling done).queues n) (stream_acts n done) d u asks (k.unused n closed) p)
+        (reopened o (opening_of n done) l (Some m) (connected_at s n) (opening_of n done).shared ((pooling done).queues n) (stream_acts n done) d u asks (k.unused n closed) p)
 
 -- an act of the stream itself
 acted_here : (s peer : EndState) (done : List (Act Octets)) (act : StreamAct Octets) (n : ℕ) (l : Opening) (u : Tale) → EndSeen s done → PoolsSeen s done → Rule s peer (Stream n act) → Pair (opening_of n done) (connected_at s n) (tale n done) l (connected_at peer n) u
@@ -587,8 +588,8 @@ state_after-push (x ∷ xs) e w = state_after-push xs e (after_entry w x)
 
 no_pair : Pair no_opening unconnected (tale_of no_opening []) no_opening unconnected (tale_of no_opening [])
 no_pair = record {
-  own = no_holds no_opening (record { small = omega arith; fits = refl });
-  own_peer = no_holds no_opening (record { small = omega arith; fits = refl });
+  own = no_holds no_opening None (record { small = omega arith; fits = refl });
+  own_peer = no_holds no_opening None (record { small = omega arith; fits = refl });
   out = λ raw. nothing_of no_opening (tale_of no_opening []).sent;
   back = λ raw. nothing_of no_opening (tale_of no_opening []).sent;
 }
@@ -620,7 +621,7 @@ fresh_end x = record {
   wires = refl;
   none_closed = refl;
   opened = λ n. ap is_some (none_at n);
-  domain = λ n h. absurd (false≢true (ap is_some (sym (none_at n)) ∙ h));
+  peer = λ n h. absurd (false≢true (ap is_some (sym (none_at n)) ∙ h));
   pooled = λ n h. absurd (false≢true (ap is_some (sym (none_at n)) ∙ h));
   unused = λ n h. refl;
 }
@@ -680,7 +681,7 @@ pool_is : (s : EndState) (done : List (Act Octets)) (n : ℕ) → EndSeen s done
 pool_is s done n k pools shared = go (has_stream s.endpoint n) refl
   where
     go : (b : Bool) → has_stream s.endpoint n ≡ b → pool_of s.endpoint (stream_at s.endpoint n).domain ≡ pool_by (domain_of n done) done
-    go true e = pools (stream_at s.endpoint n).domain ∙ ap (λ d. pool_by d done) (k.domain n e)
+    go true e = pools (stream_at s.endpoint n).domain ∙ ap (λ d. pool_by d done) (ap (λ (p : Peer). p.domain) (k.peer n e))
     go false e = absurd (false≢true (ap (λ os. (opening_in os).shared) (sym (unopened (openings n done) (sym (k.opened n) ∙ e))) ∙ shared))
 
 abbrev PairSeenAt : EndState → List (Act Octets) → EndState → List (Act Octets) → ℕ → Type 0

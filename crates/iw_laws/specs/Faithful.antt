@@ -6,7 +6,7 @@ use Rattle.iw_octets.specs.declared.message.Message.TheVariants.{Write}
 use Rattle.iw_octets.specs.declared.payload.ReadRequest.{ReadRequest}
 use Rattle.iw_octets.specs.Segment.{segment_octets}
 use Rattle.iw_memory.specs.declared.rights.Right.TheVariants as rights
-use Rattle.iw_memory.specs.Laws.{Allows}
+use Rattle.iw_memory.specs.Laws.{AllowsFor}
 use Rattle.iw_memory.specs.Table.{octets_at}
 use Rattle.iw_fpdu.specs.Frame.{frame_octets}
 use Rattle.iw_queues.specs.declared.request.Kind.{Kind}
@@ -39,14 +39,14 @@ pub record IsOldest (t : Story) (oldest : Asked) : Type 0 where
   pub is : t.asked.unanswered ≡ oldest ∷ others
 
 -- octets are fetched for the oldest request: those of its source past the ones that were fetched before, as they stand there,
--- and a peer in the stream's domain may read them; the frame carries them to its sink
+-- and the stream's peer may read them; the frame carries them to its sink
 pub record IsFetch (t : Story) (s : Standing) (from : ℕ) (frame : Octets) (fetching : Fetching) : Type 0 where
   pub oldest : Asked
   pub waits : IsOldest t oldest
   pub source : fetching.stag ≡ oldest.request.source
   pub place : fetching.to ≡ oldest.request.source_to + length t.begun
   pub asked_for : length t.begun + length fetching.octets ≤ oldest.request.size
-  pub allowed : Allows s.table s.domain fetching.stag fetching.to (length fetching.octets) rights.Read
+  pub allowed : AllowsFor s.table s.peer fetching.stag fetching.to (length fetching.octets) rights.Read
   pub stand : fetching.octets ≡ octets_at s.table fetching.stag fetching.to (length fetching.octets)
   pub carries : frame ≡ frame_octets (sending t.start) (from - first_place_out t.start)
       (segment_octets
@@ -61,7 +61,7 @@ octets_due t size request = min (request.size - length t.begun) (size - TAGGED_H
 pub record IsDenial (t : Story) (s : Standing) (size : ℕ) (fault : Fault) : Type 0 where
   pub oldest : Asked
   pub waits : IsOldest t oldest
-  pub denied : reading_fault s.table s.domain oldest.request.source (oldest.request.source_to + length t.begun) (octets_due t size oldest.request) ≡ Some fault
+  pub denied : reading_fault s.table s.peer oldest.request.source (oldest.request.source_to + length t.begun) (octets_due t size oldest.request) ≡ Some fault
 
 -- a frame that is not shown as fetched has no octets of a response
 abbrev pub FetchShown : Story → Standing → ℕ → Shown Octets → Type 0

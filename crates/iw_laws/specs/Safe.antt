@@ -1,6 +1,6 @@
 -- What holds of every trace of two ends, in words of the trace alone.
 use Rattle.std.specs.Prelude.{◌≡◌, ◌⊎◌, false, ℕ, ◌+◌, ◌<◌, ◌≤◌, List, [], ◌∷◌, ◌++◌, length, Some}
-use Rattle.iw_memory.specs.Laws.{Allows}
+use Rattle.iw_memory.specs.Laws.{AllowsFor}
 use Rattle.iw_untagged.specs.Receiving.{Receiving, ahead_of, buffer_for}
 use Rattle.iw_queues.specs.declared.request.Request.{Request}
 use Rattle.iw_queues.specs.Joined.{IsPrefixOf, Cell, count_writes, count_before}
@@ -9,7 +9,7 @@ use Rattle.iw_events.specs.declared.act.Act.{Act}
 use Rattle.iw_events.specs.declared.act.StreamAct.{StreamAct}
 use Rattle.iw_events.specs.declared.act.Entry.{Entry}
 use Rattle.iw_stream.specs.declared.answer.Role.TheVariants.{Preset, Initiator, Responder}
-use Rattle.iw_laws.specs.Words.{Octets, other, acts, deed, stream_acts, openings, Opening, domain_of, posted, sends, received, placings, written, Buffering, table_after}
+use Rattle.iw_laws.specs.Words.{Octets, other, acts, deed, stream_acts, openings, Opening, peer_at, posted, sends, received, placings, written, Buffering, table_after}
 use Rattle.iw_laws.specs.Words.{OnSome, OnStream, AtEach}
 use Rattle.iw_laws.specs.Turns.{story_of}
 
@@ -56,7 +56,7 @@ pub record InBuffer (r : Receiving) (b : Buffering) : Type 0 where
 -- what an act changed lay in a region that then allowed it, or in a receive buffer that was then posted
 abbrev pub WithinStream : List (Act Octets) → ℕ → StreamAct Octets → Type 0
 WithinStream before n act =
-    OnSome (λ p. Allows (table_after before) (domain_of n before) p.stag p.to (length p.octets) p.right) (deed act).placing
+    OnSome (λ p. AllowsFor (table_after before) (peer_at n before) p.stag p.to (length p.octets) p.right) (deed act).placing
     × OnSome (InBuffer (story_of n before).receiving) (deed act).buffering
 
 abbrev pub Within : List (Entry Octets) → Type 0

@@ -55,7 +55,7 @@ use Rattle.iw_events.specs.declared.act.Shown.TheVariants as shows
 use Rattle.iw_events.specs.declared.act.Seen.{Seen}
 use Rattle.iw_events.specs.declared.act.Seen.TheVariants as seen
 use Rattle.iw_events.specs.declared.act.Entry.{Entry}
-use Rattle.iw_laws.specs.Words.{Octets, deed, stream_acts, Opening, opening_of, domain_of, ended, Coming, taken, table_after}
+use Rattle.iw_laws.specs.Words.{Octets, deed, stream_acts, Opening, opening_of, domain_of, ended, Coming, taken, table_after, peer_at}
 use Rattle.iw_laws.specs.Words.{OnSome, OnStream, AtEach}
 
 -- ---- frames, each with its places
@@ -531,7 +531,7 @@ story_of n before = record (story_alone n before) { receiving = receiving_of n b
 abbrev pub standing : ℕ → List (Act Octets) → Standing
 standing n before =
     let t : Story = story_of n before in
-    record { table = table_after before; domain = domain_of n before; receiving = t.receiving; reads = t.reads; asked = t.asked }
+    record { table = table_after before; peer = peer_at n before; receiving = t.receiving; reads = t.reads; asked = t.asked }
 
 abbrev pub TurnsSeen : Bool → Story → Standing → Seen Octets → Type 0
 TurnsSeen over t s (seen.Done kind) = Unit {0}

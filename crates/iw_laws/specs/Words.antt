@@ -6,7 +6,8 @@ use Rattle.iw_octets.specs.declared.stag.Stag.{Stag}
 use Rattle.iw_octets.specs.declared.message.Message.TheVariants.{Write, Send}
 use Rattle.iw_memory.specs.declared.rights.Right.{Right}
 use Rattle.iw_memory.specs.declared.rights.Right.TheVariants as rights
-use Rattle.iw_memory.specs.Region.{Region}
+use Rattle.iw_memory.specs.declared.peer.Peer.{Peer}
+use Rattle.iw_memory.specs.Region.{Region, new_region}
 use Rattle.iw_memory.specs.Part.{with_room}
 use Rattle.iw_memory.specs.Table.{Table, empty, slots_of, with_part, put, added, deregistered, invalidated}
 use Rattle.iw_queues.specs.declared.request.Kind.{Kind}
@@ -131,6 +132,10 @@ opening_of n done = opening_in (openings n done)
 -- the domain that the stream was opened in
 abbrev pub domain_of : ℕ → List (Act Octets) → ℕ
 domain_of n done = (opening_of n done).domain
+
+-- the peer of the stream, as the regions know it
+abbrev pub peer_at : ℕ → List (Act Octets) → Peer
+peer_at n done = record { domain = domain_of n done; stream = Some n }
 
 -- ---- what an act did
 
@@ -375,7 +380,7 @@ abbrev pub table_by : Table → Act Octets → Table
 table_by table (Domain pd None) = added table pd
 table_by table (Domain pd (Some refusal)) = table
 table_by table (Register pd base rights octets (Ok stag)) =
-    registered_under table stag (record { base = base; octets = octets; rights = rights; valid = true })
+    registered_under table stag (new_region base octets rights)
 table_by table (Register pd base rights octets (Err refusal)) = table
 table_by table (Deregister stag (Ok octets)) = deregistered table stag
 table_by table (Deregister stag (Err refusal)) = table

@@ -2,7 +2,7 @@
 
 ghost use Rattle.std.specs.Prelude.{◌≡◌, ◌<◌, ◌≤◌, ◌^◌, true, false, length, is_some, IfOk, IfErr, OnErr};
 ghost use Rattle.iw_events.specs.Events.{call_of};
-ghost use Rattle.iw_endpoint.specs.Endpoint.{has_stream, open_refusal};
+ghost use Rattle.iw_endpoint.specs.Endpoint.{has_stream, domain_refusal, open_refusal};
 ghost use Rattle.iw_endpoint.specs.Isolation.{after, answer_or};
 ghost use Rattle.iw_endpoint.specs.Isolation as calls;
 ghost use Rattle.iw_memory.specs.Table.{register_refusal, next_stag};
@@ -13,7 +13,7 @@ use crate::wire::Wire;
 use bytes::Bytes;
 use iw_endpoint::{Endpoint, STREAM_NUMBERS};
 use iw_events::{Act, Call, Options, private_data};
-use iw_memory::{RegisterRefusal, Rights, Stag};
+use iw_memory::{DomainRefusal, RegisterRefusal, Rights, Stag};
 use iw_stream::{Config, OpenRefusal, Role};
 use std::alloc::{AllocError, Allocator, Global};
 use std::marker::Model;
@@ -47,10 +47,8 @@ impl<A: Allocator + Copy> Host<A> {
         for _i in 0..64usize {
             wires.push(Wire::new(alloc))?;
         }
-        Ok(Host {
-            endpoint: Endpoint::new(alloc)?,
-            wires,
-        })
+        let endpoint = Endpoint::new(alloc);
+        Ok(Host { endpoint, wires })
     }
 
     /// Whether a stream was opened under this number.
@@ -87,7 +85,7 @@ impl<A: Allocator + Copy> Host<A> {
         ensures not_sent { result ≡ Err Failure.NotSent → AsksTooMuch self.old peer.now call.now }
     {
         match call {
-            Call::Domain { pd } => Ok(self.add_domain(*pd)),
+            Call::Domain { pd } => self.add_domain(*pd),
             Call::Register {
                 pd,
                 base,
@@ -124,13 +122,14 @@ impl<A: Allocator + Copy> Host<A> {
         }
     }
 
-    fn add_domain(&mut self, pd: u8) -> Act<Bytes<A>>
-        ensures rule { EndRule self.old.endpoint result }
-        ensures call { call_of result ≡ Call.Domain pd }
-        ensures state { self.new ≡ end_after self.old result }
+    fn add_domain(&mut self, pd: u8) -> Result<Act<Bytes<A>>, Failure>
+        ensures rule { IfOk result (λ act. EndRule self.old.endpoint act) }
+        ensures call { IfOk result (λ act. call_of act ≡ Call.Domain pd) }
+        ensures state { IfOk result (λ act. self.new ≡ end_after self.old act) }
+        ensures failure { IfErr result (λ failure. failure ≡ Failure.NoMemory) }
     {
-        let refused = self.endpoint.add_domain(pd).err();
-        Act::Domain { pd, refused }
+        let refused = add_domain(&mut self.endpoint, pd)?;
+        Ok(Act::Domain { pd, refused })
     }
 
     fn register(
@@ -227,6 +226,22 @@ impl<A: Allocator + Copy> Host<A> {
             private: copy,
             refused,
         })
+    }
+}
+
+// Adds a domain: returns why not, if it is refused.
+fn add_domain<A: Allocator + Copy>(
+    endpoint: &mut Endpoint<A>,
+    pd: u8,
+) -> Result<Option<DomainRefusal>, Failure>
+    ensures rule { IfOk result (λ refused. refused ≡ domain_refusal endpoint.old pd) }
+    ensures state { IfOk result (λ refused. endpoint.new ≡ after endpoint.old (calls.AddDomain pd)) }
+    ensures failure { IfErr result (λ failure. failure ≡ Failure.NoMemory) }
+{
+    match endpoint.add_domain(pd) {
+        Ok(()) => Ok(None),
+        Err(DomainRefusal::NoMemory) => Err(Failure::NoMemory),
+        Err(refusal) => Ok(Some(refusal)),
     }
 }
 

@@ -16,4 +16,4 @@ pub returns : goal.returns
 unfolding no_wires
 returns g c =
     let full : c.loop-i._i ≡ 64 = omega arith in
-    (λ i. record { endpoint = c.in_ok-new.ensures i; wires = (c.loop-i.invariant ∙ ap (λ n. replicate n []) full) i })
+    (λ i. record { endpoint = c.new-endpoint.ensures i; wires = (c.loop-i.invariant ∙ ap (λ n. replicate n []) full) i })
