@@ -9,7 +9,7 @@ use Rattle.iw_output.specs.declared.status.Status.TheVariants.{Completed, Failed
 use Rattle.iw_output.specs.Status.{with}
 use Rattle.iw_endpoint.specs.Endpoint.{EndpointState}
 use Rattle.iw_links.specs.declared.report.Report.{Report}
-use Rattle.iw_links.specs.Exchange.{Part, Serves, Plan, plan_for, listening, shared_region}
+use Rattle.iw_links.specs.Exchange.{Part, Serves, plan_for, listening, shared_region}
 use Rattle.iw_commands.specs.declared.options.Options.{Options}
 use Rattle.iw_commands.specs.Lines.{lines, lines_from}
 use Rattle.iw_commands.specs.Port.{port_line}

@@ -1,4 +1,4 @@
-ghost use Rattle.std.specs.Prelude.{◌≡◌, ◌<◌, length, IfOk, OnErr};
+ghost use Rattle.std.specs.Prelude.{◌≡◌, IfOk, OnErr};
 ghost use Rattle.iw_endpoint.specs.Endpoint.{EndpointState};
 ghost use Rattle.iw_links.specs.Exchange.{Asks, plan_for, with_domain};
 ghost use Rattle.iw_commands.specs.Printed.{IsTold, Prints, PrintsFront};
@@ -8,7 +8,7 @@ use crate::options::Options;
 use crate::peers::{Calls, Peers};
 use crate::printing::{print_report, unmade};
 use iw_endpoint::Endpoint;
-use iw_links::{Counted, MOST_READ, Output, Report, Terms, ask, caller};
+use iw_links::{Counted, Output, Report, Terms, ask, caller};
 use iw_output::Status;
 use std::alloc::Global;
 use std::io::{Read, Write};
@@ -32,11 +32,8 @@ pub(crate) fn ask_peer<R: Read + Drop, O: Output + Drop>(
     terms: Terms,
     text: &str,
     peer: (R, O),
-    buffer: &mut [u8],
 ) -> Report
-    requires { 0 < length buffer.old }
     ensures told { IsTold (plan_for terms (Asks text.now)) endpoint.old endpoint.new result }
-    ensures room { length buffer.new ≡ length buffer.old }
 {
     let (input, mut output) = peer;
     let mut input = Counted::new(input);
@@ -47,7 +44,6 @@ pub(crate) fn ask_peer<R: Read + Drop, O: Output + Drop>(
         text.as_bytes(),
         &mut input,
         &mut output,
-        buffer,
     ) {
         Ok(report) => report,
         Err(_) => unmade(),
@@ -61,14 +57,11 @@ fn ask_next<P: Peers>(
     endpoint: &mut Endpoint,
     terms: Terms,
     text: &str,
-    buffer: &mut [u8],
 ) -> Report
-    requires { 0 < length buffer.old }
     ensures told { IsTold (plan_for terms (Asks text.now)) endpoint.old endpoint.new result }
-    ensures room { length buffer.new ≡ length buffer.old }
 {
     match peers.next_peer() {
-        Ok(peer) => ask_peer(alloc, endpoint, terms, text, peer, buffer),
+        Ok(peer) => ask_peer(alloc, endpoint, terms, text, peer),
         Err(_) => unmade(),
     }
 }
@@ -79,10 +72,8 @@ fn ask_each<P: Peers, W: Write>(
     peers: &mut P,
     endpoint: &mut Endpoint,
     request: &Request<'_>,
-    buffer: &mut [u8],
     print: &mut W,
 ) -> Result<Status, CommandFault>
-    requires { 0 < length buffer.old }
     ensures printed { IfOk result (Prints request.now.options (Asks request.now.text.now) endpoint.old endpoint.new
         request.now.count (W.contents print.old) (W.contents print.new)) }
     ensures stopped { OnErr result (PrintsFront request.now.options (Asks request.now.text.now) endpoint.old endpoint.new
@@ -91,7 +82,7 @@ fn ask_each<P: Peers, W: Write>(
     let mut status = Status::Completed;
     for stream in 0..request.count {
         let terms = request.options.at(stream);
-        let report = ask_next(alloc, peers, endpoint, terms, request.text, buffer);
+        let report = ask_next(alloc, peers, endpoint, terms, request.text);
         match print_report(alloc, print, stream, &report) {
             Ok(next) => status = status.with(next),
             Err(fault) => return Err(fault),
@@ -115,20 +106,10 @@ pub fn connect_all<P: Peers, W: Write>(
     ensures stopped { OnErr result ((last : EndpointState) × PrintsFront request.now.options (Asks request.now.text.now)
         with_domain last request.now.count (W.contents print.old) (W.contents print.new)) }
 {
-    let Ok(mut buffer) = vec![in alloc; 0u8; MOST_READ] else {
-        return Err(CommandFault::NoMemory);
-    };
     let Ok(mut endpoint) = caller(alloc) else {
         return Err(CommandFault::NoMemory);
     };
-    match ask_each(
-        alloc,
-        peers,
-        &mut endpoint,
-        request,
-        buffer.as_mut_slice(),
-        print,
-    ) {
+    match ask_each(alloc, peers, &mut endpoint, request, print) {
         Ok(status) => Ok(status),
         Err(fault) => Err(fault),
     }

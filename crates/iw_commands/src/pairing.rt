@@ -11,12 +11,15 @@ use crate::port::read_port;
 use crate::printing::{print_report, unmade};
 use crate::starting::listener;
 use iw_endpoint::Endpoint;
-use iw_links::{Counted, MOST_READ, MOST_READS, Report, Terms, caller};
+use iw_links::{Counted, MOST_READS, Report, Terms, caller};
 use iw_output::Status;
 use std::alloc::Global;
 use std::io::{Read, Write};
 use std::net::Net;
 use std::process::{Child, OpenProcess, Processes};
+
+// The most octets that one read of the pipe takes: as many as a pipe holds.
+const MOST_PIPED: usize = 65_536;
 
 /// How the requests of `pair` went.
 #[derive(Clone, Copy, Debug, PartialEq, Eq)]
@@ -47,7 +50,7 @@ fn ask_next<P: Peers, I: Read>(
 {
     match peers.next_peer() {
         Ok(peer) => {
-            let report = ask_peer(alloc, endpoint, terms, text, peer, buffer);
+            let report = ask_peer(alloc, endpoint, terms, text, peer);
             let read = pipe.next(buffer);
             (report, read.is_ok())
         }
@@ -231,7 +234,7 @@ pub fn pair<R: Net + Processes, W: Write>(
     ensures stopped { OnErr result ((last : EndpointState) × PrintsFront request.now.options (Asks request.now.text.now)
         with_domain last request.now.count (W.contents print.old) (W.contents print.new)) }
 {
-    let Ok(mut buffer) = vec![in alloc; 0u8; MOST_READ] else {
+    let Ok(mut buffer) = vec![in alloc; 0u8; MOST_PIPED] else {
         return Err(CommandFault::NoMemory);
     };
     let mut child = match start(alloc, rt, program, request) {

@@ -1,4 +1,4 @@
-ghost use Rattle.std.specs.Prelude.{◌≡◌, ◌<◌, length, IfOk, OnErr};
+ghost use Rattle.std.specs.Prelude.{◌≡◌, IfOk, OnErr};
 ghost use Rattle.iw_endpoint.specs.Endpoint.{EndpointState};
 ghost use Rattle.iw_links.specs.Exchange.{Serves, plan_for, listening, shared_region};
 ghost use Rattle.iw_commands.specs.Printed.{IsPort, IsTold, Prints, PrintsFront, PrintsPort, PrintsPortFront};
@@ -9,7 +9,7 @@ use crate::peers::{Arrivals, Peers};
 use crate::port::port_text;
 use crate::printing::{print_report, print_text, unmade};
 use iw_endpoint::{Endpoint, Stag};
-use iw_links::{Counted, MOST_READ, Report, Terms, listener, serve};
+use iw_links::{Counted, Report, Terms, listener, serve};
 use iw_output::Status;
 use std::alloc::Global;
 use std::io::Write;
@@ -22,25 +22,14 @@ fn serve_next<P: Peers>(
     endpoint: &mut Endpoint,
     terms: Terms,
     region: Stag,
-    buffer: &mut [u8],
 ) -> Report
-    requires { 0 < length buffer.old }
     ensures told { IsTold (plan_for terms (Serves region)) endpoint.old endpoint.new result }
-    ensures room { length buffer.new ≡ length buffer.old }
 {
     let Ok((input, mut output)) = peers.next_peer() else {
         return unmade();
     };
     let mut input = Counted::new(input);
-    match serve(
-        alloc,
-        endpoint,
-        terms,
-        region,
-        &mut input,
-        &mut output,
-        buffer,
-    ) {
+    match serve(alloc, endpoint, terms, region, &mut input, &mut output) {
         Ok(report) => report,
         Err(_) => unmade(),
     }
@@ -54,10 +43,8 @@ fn serve_each<P: Peers, W: Write>(
     region: Stag,
     options: Options,
     count: u8,
-    buffer: &mut [u8],
     print: &mut W,
 ) -> Result<Status, CommandFault>
-    requires { 0 < length buffer.old }
     ensures printed { IfOk result (Prints options (Serves region) endpoint.old endpoint.new
         count (W.contents print.old) (W.contents print.new)) }
     ensures stopped { OnErr result (PrintsFront options (Serves region) endpoint.old endpoint.new
@@ -66,7 +53,7 @@ fn serve_each<P: Peers, W: Write>(
     let mut status = Status::Completed;
     for stream in 0..count {
         let terms = options.at(stream);
-        let report = serve_next(alloc, peers, endpoint, terms, region, buffer);
+        let report = serve_next(alloc, peers, endpoint, terms, region);
         match print_report(alloc, print, stream, &report) {
             Ok(next) => status = status.with(next),
             Err(fault) => return Err(fault),
@@ -91,22 +78,10 @@ pub fn listen_all<P: Peers, W: Write>(
     ensures stopped { OnErr result ((last : EndpointState) × PrintsFront options (Serves shared_region) listening last
         count (W.contents print.old) (W.contents print.new)) }
 {
-    let Ok(mut buffer) = vec![in alloc; 0u8; MOST_READ] else {
-        return Err(CommandFault::NoMemory);
-    };
     let Ok((mut endpoint, region)) = listener(alloc) else {
         return Err(CommandFault::NoMemory);
     };
-    match serve_each(
-        alloc,
-        peers,
-        &mut endpoint,
-        region,
-        options,
-        count,
-        buffer.as_mut_slice(),
-        print,
-    ) {
+    match serve_each(alloc, peers, &mut endpoint, region, options, count, print) {
         Ok(status) => Ok(status),
         Err(fault) => Err(fault),
     }

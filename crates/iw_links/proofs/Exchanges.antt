@@ -1,8 +1,8 @@
 -- Calls at an endpoint one after another, and what they come to.
-use Rattle.std.proofs.Common.{◌≡◌, ℕ, ◌+◌, ◌%◌, ◌^◌, List, [], ◌∷◌, ◌++◌, length, take, drop, refl, sym, inl, inr, arith, append_assoc, append-nil, take-append-drop}
+use Rattle.std.proofs.Common.{◌≡◌, ℕ, ◌+◌, List, [], ◌∷◌, ◌++◌, take, drop, refl, sym, subst, inl, inr, arith, append_assoc, append-nil, take-append-drop}
 use Rattle.std.specs.Prelude.{Option, None, Some, Ok, Bool, true, false, ◌||◌, ◌≤◌, is_some}
 use Rattle.std.specs.Io.KnownBytes.{Appends, Consumes, Keeps}
-use Rattle.std.proofs.KnownBytes.{Appends-kept, Appends-nil, Appends-trans, Consumes-nil, Consumes-trans}
+use Rattle.std.proofs.KnownBytes.{Appends-kept, Appends-nil, Appends-trans, Consumes-kept, Consumes-nil, Consumes-trans}
 use Rattle.arrayvec.specs.ArrayVec.{ArrayVec}
 use Rattle.iw_memory.specs.declared.rights.Rights.{Rights}
 use Rattle.iw_octets.specs.declared.stag.Stag.{Stag}
@@ -11,9 +11,12 @@ use Rattle.iw_stream.specs.declared.answer.Emission.{Emission}
 use Rattle.iw_stream.specs.declared.answer.Emission.TheVariants as emissions
 use Rattle.iw_stream.specs.declared.answer.Step.{Step}
 use Rattle.iw_stream.specs.declared.answer.Step.TheVariants as steps
-use Rattle.iw_endpoint.specs.Endpoint.{EndpointState, registered, opened, with_buffer, accepted, after_deliver, step_at, after_work, with_request, emission_at, emitted_at, after_emit}
+use Rattle.iw_endpoint.specs.Endpoint.{EndpointState, registered, opened, with_buffer, accepted, after_deliver, step_at, after_work, with_request, emission_at, emitted_at, after_emit, delivery_at, stream_at}
+use Rattle.iw_endpoint.specs.Reading.{Took}
+use Rattle.iw_ranges.specs.declared.Delivery.TheVariants.{Kept}
+use Rattle.iw_stream.specs.Stream.{ended}
 use Rattle.iw_links.specs.Exchange.{Part, Serves, Asks, Plan, private_of, receive_buffer, Phase, Lending, Listening, Working, Accepting, Speaking, Closing, after_lending, after_step, after_emission}
-use Rattle.iw_links.specs.Exchange.{Event, Lent, Accepted, Delivered, Worked, Posted, Emitted, Standing, Told, told_by, told_of, MayAwait, MayHear, answers_at_once, IsDue, Goes, Runs, came_in, went_out, inputs, outputs, Did, Emits, Exchanged, IsUndelivered, Failed, Closes, role_of, started, IsAnswer, IsSaid, IsSettled, Finished}
+use Rattle.iw_links.specs.Exchange.{Event, Lent, Accepted, Delivered, Worked, Posted, Emitted, Standing, Told, told_by, told_of, MayAwait, MayHear, answers_at_once, IsDue, next_number, AreKept, Goes, Runs, came_in, went_out, inputs, outputs, Did, Emits, Exchanged, Failed, Closes, role_of, started, IsAnswer, IsSaid, IsSettled, Finished}
 use Rattle.iw_links.specs.Standing.{count_answered, count_said, Halts, ReadsOn, Stopped}
 use Rattle.iw_links.specs.declared.exchange.Until.{Until}
 use Rattle.iw_links.specs.declared.exchange.Until.TheVariants as untils
@@ -59,47 +62,47 @@ quietly p s s' event came went goes = record {
   went = rw went refl;
 }
 
-abbrev pub at : EndpointState → ℕ → Told → Phase → ℕ → Standing
-at e c t phase k = record { endpoint = e; next = c; told = t; phase = phase; posted = k }
+abbrev pub at : EndpointState → Told → Phase → ℕ → Standing
+at e t phase k = record { endpoint = e; told = t; phase = phase; posted = k }
 
-pub lends : (p : Plan) (e e' : EndpointState) (c : ℕ) (t : Told) (k : ℕ) (buffer : List ℕ) → buffer ≡ receive_buffer →
-    e' ≡ with_buffer e p.number buffer → Did p (at e c t Lending k) (at e' c t (after_lending p.part) k) [] []
-lends p e e' c t k buffer zero_filled is = quietly p _ _ (Lent buffer) refl refl (refl, zero_filled, rw is refl)
+pub lends : (p : Plan) (e e' : EndpointState) (t : Told) (k : ℕ) (buffer : List ℕ) → buffer ≡ receive_buffer →
+    e' ≡ with_buffer e p.number buffer → Did p (at e t Lending k) (at e' t (after_lending p.part) k) [] []
+lends p e e' t k buffer zero_filled is = quietly p _ _ (Lent buffer) refl refl (refl, zero_filled, rw is refl)
 
-pub accepts : (p : Plan) (e e' : EndpointState) (c : ℕ) (t : Told) (k : ℕ) (private : ArrayVec ℕ) → private.items ≡ private_of p.part →
-    e' ≡ accepted e p.number private → Did p (at e c t Accepting k) (at e' c t Working k) [] []
-accepts p e e' c t k private named is = quietly p _ _ (Accepted private) refl refl (refl, named, rw is refl)
+pub accepts : (p : Plan) (e e' : EndpointState) (t : Told) (k : ℕ) (private : ArrayVec ℕ) → private.items ≡ private_of p.part →
+    e' ≡ accepted e p.number private → Did p (at e t Accepting k) (at e' t Working k) [] []
+accepts p e e' t k private named is = quietly p _ _ (Accepted private) refl refl (refl, named, rw is refl)
 
-pub posts : (p : Plan) (e e' : EndpointState) (c : ℕ) (t : Told) (phase : Phase) (k : ℕ) (request : Request (List ℕ)) →
-    IsDue p.part p.number (at e c t phase k) request → e' ≡ with_request e p.number request →
-    Did p (at e c t phase k) (at e' c t Speaking (k + 1)) [] []
-posts p e e' c t phase k request due is = quietly p _ _ (Posted request) refl refl (due, rw is refl)
+pub posts : (p : Plan) (e e' : EndpointState) (t : Told) (phase : Phase) (k : ℕ) (request : Request (List ℕ)) →
+    IsDue p.part p.number (at e t phase k) request → e' ≡ with_request e p.number request →
+    Did p (at e t phase k) (at e' t Speaking (k + 1)) [] []
+posts p e e' t phase k request due is = quietly p _ _ (Posted request) refl refl (due, rw is refl)
 
-pub works : (p : Plan) (e e' : EndpointState) (c c' : ℕ) (t t' : Told) (k : ℕ) (phase : Phase) (step : Step (List ℕ)) →
-    Ok step ≡ step_at e p.number → e' ≡ after_work e p.number → c' ≡ c → t' ≡ told_by t step → phase ≡ after_step step →
-    Did p (at e c t Working k) (at e' c' t' phase k) [] []
-works p e e' c c' t t' k phase step is after same tells asks =
-    quietly p _ _ (Worked step) refl refl (refl, sym is, rw (after, same, tells, asks) refl)
+pub works : (p : Plan) (e e' : EndpointState) (t t' : Told) (k : ℕ) (phase : Phase) (step : Step (List ℕ)) →
+    Ok step ≡ step_at e p.number → e' ≡ after_work e p.number → t' ≡ told_by t step → phase ≡ after_step step →
+    Did p (at e t Working k) (at e' t' phase k) [] []
+works p e e' t t' k phase step is after tells asks =
+    quietly p _ _ (Worked step) refl refl (refl, sym is, rw (after, tells, asks) refl)
 
-pub delivers : (p : Plan) (e e' : EndpointState) (c c' : ℕ) (t : Told) (k : ℕ) (octets : List ℕ) → MayHear p t k →
-    e' ≡ after_deliver e p.number c octets → c' ≡ (c + length octets) % 2 ^ 32 →
-    Did p (at e c t Listening k) (at e' c' t Working k) octets []
-delivers p e e' c c' t k octets may after count = record {
+pub delivers : (p : Plan) (e e' : EndpointState) (t : Told) (k : ℕ) (octets : List ℕ) → MayHear p t k →
+    AreKept e p.number octets → e' ≡ after_deliver e p.number (next_number e p.number) octets →
+    Did p (at e t Listening k) (at e' t Working k) octets []
+delivers p e e' t k octets may kept after = record {
   events = Delivered octets ∷ [];
-  runs = (at e' c' t Working k, (refl, may, rw (after, count) refl), refl);
+  runs = (at e' t Working k, (refl, may, kept, rw after refl), refl);
   came = append-nil octets;
   went = refl;
 }
 
-pub emits : (p : Plan) (e e' : EndpointState) (c : ℕ) (t t' : Told) (k : ℕ) (phase : Phase) (emission : Emission) (out out' : List ℕ) →
+pub emits : (p : Plan) (e e' : EndpointState) (t t' : Told) (k : ℕ) (phase : Phase) (emission : Emission) (out out' : List ℕ) →
     emission ≡ emission_at e p.number → out' ≡ out ++ emitted_at e p.number → e' ≡ after_emit e p.number →
     t' ≡ told_of t emission → phase ≡ after_emission emission →
-    Emits p (at e c t Speaking k) (at e' c t' phase k) out out'
-emits p e e' c t t' k phase emission out out' is grows after tells goes_on = record {
+    Emits p (at e t Speaking k) (at e' t' phase k) out out'
+emits p e e' t t' k phase emission out out' is grows after tells goes_on = record {
   outs = emitted_at e p.number;
   did = record {
     events = Emitted emission (emitted_at e p.number) ∷ [];
-    runs = (at e' c t' phase k, (refl, is, refl, rw (after, tells, goes_on) refl), refl);
+    runs = (at e' t' phase k, (refl, is, refl, rw (after, tells, goes_on) refl), refl);
     came = refl;
     went = append-nil (emitted_at e p.number);
   };
@@ -135,6 +138,24 @@ pub after_read : (p : Plan) (s s' : Standing) (i i' o : Option (List ℕ)) (octe
     Did p s s' octets [] → Consumes i i' octets → Exchanged p s i o s' i' o
 after_read p s s' i i' o octets did reads = record { ins = octets; outs = []; did = did; reads = reads; writes = Appends-nil o }
 
+-- one read in place
+pub took : (p : Plan) (e e' : EndpointState) (t : Told) (k n : ℕ) (i i' o : Option (List ℕ)) → MayHear p t k →
+    Took e e' p.number i i' n → Exchanged p (at e t Listening k) i o (at e' t Working k) i' o
+took p e e' t k n i i' o may x =
+    let P : ℕ → Type 0 = λ m. ended (stream_at e p.number) ≡ false → delivery_at e p.number (next_number e p.number) m ≡ Kept in
+    after_read p _ _ i i' o x.octets (delivers p e e' t k x.octets may (subst P (sym x.len) x.kept) x.delivered) x.given
+
+-- one that read nothing
+pub read_nothing : (p : Plan) (e e' : EndpointState) (t : Told) (k : ℕ) (i i' o : Option (List ℕ)) → e' ≡ e → Keeps i i' →
+    Exchanged p (at e t Listening k) i o (at e' t Listening k) i' o
+read_nothing p e e' t k i i' o same kept =
+    after_read p _ _ i i' o [] (rw same (stays p (at e t Listening k))) (Consumes-kept i i i' [] (Consumes-nil i) kept)
+
+-- one at the end of the input
+pub read_end : (p : Plan) (e e' : EndpointState) (t : Told) (k : ℕ) (i i' o : Option (List ℕ)) → e' ≡ e → Consumes i i' [] →
+    Exchanged p (at e t Listening k) i o (at e' t Listening k) i' o
+read_end p e e' t k i i' o same gave = after_read p _ _ i i' o [] (rw same (stays p (at e t Listening k))) gave
+
 pub after_write : (p : Plan) (s s' : Standing) (i o o' : Option (List ℕ)) (out : List ℕ) →
     Emits p s s' [] out → Appends o o' out → Exchanged p s i o s' i o'
 after_write p s s' i o o' out e writes = record {
@@ -163,45 +184,24 @@ fails_later p s m at' i j i' o q o' first f = record {
   phase = f.phase;
   posted = f.posted;
   ins = first.ins ++ f.ins;
-  lost = f.lost;
   written = first.outs ++ f.written;
   unwritten = f.unwritten;
   did = rw append_assoc (joins p s m (at' f.phase f.posted) first.ins f.ins first.outs (f.written ++ f.unwritten) first.did f.did);
-  reads = rw append_assoc (Consumes-trans i j i' first.ins (f.ins ++ f.lost) first.reads f.reads);
+  reads = Consumes-trans i j i' first.ins f.ins first.reads f.reads;
   writes = Appends-trans o q o' first.outs f.written first.writes f.writes;
-  undelivered = f.undelivered;
 }
 
--- octets that were read could not be delivered
-pub fails_undelivered : (p : Plan) (at' : Phase → ℕ → Standing) (k : ℕ) (i i' o : Option (List ℕ)) (lost : List ℕ) →
-    IsUndelivered p (at' Listening k) lost → Consumes i i' lost → Failed p (at' Listening k) i o at' i' o
-fails_undelivered p at' k i i' o lost undelivered reads = record {
-  phase = Listening;
-  posted = k;
-  ins = [];
-  lost = lost;
-  written = [];
-  unwritten = [];
-  did = stays p (at' Listening k);
-  reads = reads;
-  writes = Appends-nil o;
-  undelivered = inr undelivered;
-}
-
--- nothing is lost
 pub fails_now : (p : Plan) (s : Standing) (at' : Phase → ℕ → Standing) (phase : Phase) (k : ℕ) (i i' o o' : Option (List ℕ)) →
     Exchanged p s i o (at' phase k) i' o' → Failed p s i o at' i' o'
 fails_now p s at' phase k i i' o o' e = record {
   phase = phase;
   posted = k;
   ins = e.ins;
-  lost = [];
   written = e.outs;
   unwritten = [];
   did = rw (append-nil e.outs) e.did;
-  reads = rw (append-nil e.ins) e.reads;
+  reads = e.reads;
   writes = e.writes;
-  undelivered = inl refl;
 }
 
 pub fails_quietly : (p : Plan) (s : Standing) (at' : Phase → ℕ → Standing) (phase : Phase) (k : ℕ) (i o : Option (List ℕ)) →
@@ -219,13 +219,11 @@ fails_unwritten p s at' phase k i o out e = record {
   phase = phase;
   posted = k;
   ins = [];
-  lost = [];
   written = [];
   unwritten = e.outs;
   did = e.did;
   reads = Consumes-nil i;
   writes = Appends-nil o;
-  undelivered = inl refl;
 }
 
 -- its front alone is written
@@ -235,13 +233,11 @@ fails_short p s at' phase k i o o' out count e writes = record {
   phase = phase;
   posted = k;
   ins = [];
-  lost = [];
   written = take count e.outs;
   unwritten = drop count e.outs;
   did = rw (take-append-drop count e.outs) e.did;
   reads = Consumes-nil i;
   writes = rw (← e.appends) writes;
-  undelivered = inl refl;
 }
 
 -- ---- up to where it stops
@@ -297,7 +293,7 @@ ends_by_emission t emissions.Nothing h = h
 ends_by : (p : Plan) (s s' : Standing) (event : Event) → Goes p s event s' → is_some s.told.ended ≡ true → is_some s'.told.ended ≡ true
 ends_by p s s' (Lent buffer) goes h = rw goes.2 h
 ends_by p s s' (Accepted private) goes h = rw goes.2 h
-ends_by p s s' (Delivered octets) goes h = rw goes.2 h
+ends_by p s s' (Delivered octets) goes h = rw goes.3 h
 ends_by p s s' (Worked step) goes h = rw goes.2 (ends_by_step s.told step h)
 ends_by p s s' (Posted request) goes h = rw goes.1 h
 ends_by p s s' (Emitted emission octets) goes h = rw goes.3 (ends_by_emission s.told emission h)
@@ -339,7 +335,7 @@ gets_by_emission t emissions.Nothing h = h
 gets_by : (p : Plan) (s s' : Standing) (event : Event) → Goes p s event s' → is_some s.told.received ≡ true → is_some s'.told.received ≡ true
 gets_by p s s' (Lent buffer) goes h = rw goes.2 h
 gets_by p s s' (Accepted private) goes h = rw goes.2 h
-gets_by p s s' (Delivered octets) goes h = rw goes.2 h
+gets_by p s s' (Delivered octets) goes h = rw goes.3 h
 gets_by p s s' (Worked step) goes h = rw goes.2 (gets_by_step s.told step h)
 gets_by p s s' (Posted request) goes h = rw goes.1 h
 gets_by p s s' (Emitted emission octets) goes h = rw goes.3 (gets_by_emission s.told emission h)
@@ -422,20 +418,20 @@ finishes_later p s m at' i j i' o q o' told first f = record {
 
 -- ---- from the opening on
 
-pub begins : (p : Plan) (e e' : EndpointState) (c : ℕ) (r : Option (List ℕ)) (d : Option Ended) (i o i' o' : Option (List ℕ))
-    (at' : Phase → ℕ → Standing) (told : Told) → e' ≡ opened e p.number 1 (role_of p.part) p.config → c ≡ 0 → r ≡ None → d ≡ None →
-    Finished p (at e' c (record { received = r; ended = d }) Lending 0) i o at' i' o' told →
+pub begins : (p : Plan) (e e' : EndpointState) (r : Option (List ℕ)) (d : Option Ended) (i o i' o' : Option (List ℕ))
+    (at' : Phase → ℕ → Standing) (told : Told) → e' ≡ opened e p.number 1 (role_of p.part) p.config → r ≡ None → d ≡ None →
+    Finished p (at e' (record { received = r; ended = d }) Lending 0) i o at' i' o' told →
     Finished p (started p e) i o at' i' o' told
-begins p e e' c r d i o i' o' at' told opens none nothing no_end f = rw (opens, none, nothing, no_end) at f
+begins p e e' r d i o i' o' at' told opens nothing no_end f = rw (opens, nothing, no_end) at f
 
-pub begins_to_fail : (p : Plan) (e e' : EndpointState) (c : ℕ) (r : Option (List ℕ)) (d : Option Ended) (i o i' o' : Option (List ℕ))
-    (at' : Phase → ℕ → Standing) → e' ≡ opened e p.number 1 (role_of p.part) p.config → c ≡ 0 → r ≡ None → d ≡ None →
-    Failed p (at e' c (record { received = r; ended = d }) Lending 0) i o at' i' o' →
+pub begins_to_fail : (p : Plan) (e e' : EndpointState) (r : Option (List ℕ)) (d : Option Ended) (i o i' o' : Option (List ℕ))
+    (at' : Phase → ℕ → Standing) → e' ≡ opened e p.number 1 (role_of p.part) p.config → r ≡ None → d ≡ None →
+    Failed p (at e' (record { received = r; ended = d }) Lending 0) i o at' i' o' →
     Failed p (started p e) i o at' i' o'
-begins_to_fail p e e' c r d i o i' o' at' opens none nothing no_end f = rw (opens, none, nothing, no_end) at f
+begins_to_fail p e e' r d i o i' o' at' opens nothing no_end f = rw (opens, nothing, no_end) at f
 
-pub begins_to_close : (p : Plan) (e e' : EndpointState) (c : ℕ) (r : Option (List ℕ)) (d : Option Ended) (i o i' o' : Option (List ℕ))
-    (at' : Phase → ℕ → Standing) → e' ≡ opened e p.number 1 (role_of p.part) p.config → c ≡ 0 → r ≡ None → d ≡ None →
-    Closes p (at e' c (record { received = r; ended = d }) Lending 0) i o at' i' o' →
+pub begins_to_close : (p : Plan) (e e' : EndpointState) (r : Option (List ℕ)) (d : Option Ended) (i o i' o' : Option (List ℕ))
+    (at' : Phase → ℕ → Standing) → e' ≡ opened e p.number 1 (role_of p.part) p.config → r ≡ None → d ≡ None →
+    Closes p (at e' (record { received = r; ended = d }) Lending 0) i o at' i' o' →
     Closes p (started p e) i o at' i' o'
-begins_to_close p e e' c r d i o i' o' at' opens none nothing no_end f = rw (opens, none, nothing, no_end) at f
+begins_to_close p e e' r d i o i' o' at' opens nothing no_end f = rw (opens, nothing, no_end) at f

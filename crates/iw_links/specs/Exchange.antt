@@ -1,5 +1,5 @@
 -- What a connection does at an endpoint, from its opening to its end.
-use Rattle.std.specs.Prelude.{◌≡◌, ℕ, ◌+◌, ◌-◌, ◌%◌, ◌≤◌, ◌^◌, List, [], ◌∷◌, ◌++◌, length, replicate, take, ◌⊎◌, Option, None, Some, Bool, true, false, not, is_some, if◌then◌else◌, Ok}
+use Rattle.std.specs.Prelude.{◌≡◌, ℕ, ◌+◌, ◌≤◌, List, [], ◌∷◌, ◌++◌, length, replicate, take, ◌⊎◌, Option, None, Some, Bool, true, false, not, is_some, if◌then◌else◌, Ok}
 use Rattle.std.specs.Option.{option_map}
 use Rattle.std.specs.Io.KnownBytes.{Appends, Consumes, IsAtEnd}
 use Rattle.arrayvec.specs.ArrayVec.{ArrayVec}
@@ -10,7 +10,7 @@ use Rattle.iw_octets.specs.declared.stag.Stag.{Stag}
 use Rattle.iw_octets.specs.Stag.{spelled, stag_at}
 use Rattle.iw_queues.specs.declared.request.Request.{Request}
 use Rattle.iw_queues.specs.declared.request.Request.TheVariants as requests
-use Rattle.iw_ranges.specs.Arrived.{BringsOctets}
+use Rattle.iw_ranges.specs.declared.Delivery.TheVariants.{Kept}
 use Rattle.iw_startup.specs.declared.config.Config.{Config}
 use Rattle.iw_startup.specs.declared.config.Establishment.{Establishment}
 use Rattle.iw_startup.specs.declared.config.Establishment.TheVariants as establishments
@@ -20,8 +20,9 @@ use Rattle.iw_stream.specs.declared.answer.Role.{Role}
 use Rattle.iw_stream.specs.declared.answer.Role.TheVariants as roles
 use Rattle.iw_stream.specs.declared.answer.Step.{Step}
 use Rattle.iw_stream.specs.declared.answer.Step.TheVariants as steps
-use Rattle.iw_stream.specs.Stream.{ended, place_of, left_out}
-use Rattle.iw_endpoint.specs.Endpoint.{EndpointState, fresh, added, registered, opened, octets_of, with_buffer, accepted, after_deliver, step_at, after_work, with_request, emission_at, emitted_at, after_emit, private_at, broken, has_stream, stream_at}
+use Rattle.iw_stream.specs.Reading.{number_past}
+use Rattle.iw_stream.specs.Stream.{ended}
+use Rattle.iw_endpoint.specs.Endpoint.{EndpointState, fresh, added, registered, opened, octets_of, with_buffer, accepted, delivery_at, after_deliver, step_at, after_work, with_request, emission_at, emitted_at, after_emit, private_at, broken, has_stream, stream_at}
 use Rattle.iw_links.specs.declared.exchange.Terms.{Terms}
 use Rattle.iw_links.specs.declared.report.Ended.{Ended}
 use Rattle.iw_links.specs.declared.report.Ended.TheVariants as ends
@@ -190,11 +191,9 @@ pub data Event : Type 0 where
   Posted : Request (List ℕ) → Event
   Emitted : Emission → List ℕ → Event
 
--- The state of a connection: the endpoint, the sequence number of the octet that comes next, the report so far, what is
--- done next, and how many messages were posted.
+-- The state of a connection: the endpoint, the report so far, what is done next, and how many messages were posted.
 pub record Standing : Type 0 where
   pub endpoint : EndpointState
-  pub next : ℕ
   pub told : Told
   pub phase : Phase
   pub posted : ℕ
@@ -203,7 +202,6 @@ pub record Standing : Type 0 where
 abbrev pub started : Plan → EndpointState → Standing
 started p e = record {
   endpoint = opened e p.number 1 (role_of p.part) p.config;
-  next = 0;
   told = record { received = None; ended = None };
   phase = Lending;
   posted = 0;
@@ -256,8 +254,16 @@ abbrev pub IsDue : Part → ℕ → Standing → Request (List ℕ) → Type 0
 IsDue (Serves region) n s request = IsAnswer region s request
 IsDue (Asks text) n s request = IsWrite n text s request ⊎ IsSend text s request
 
--- The call, on the stream of the plan, takes one state to the other. Octets are delivered with the sequence number that
--- follows all that came before, modulo 2^32.
+-- the sequence number past the last octet that came
+abbrev pub next_number : EndpointState → ℕ → ℕ
+next_number e n = number_past (stream_at e n)
+
+-- octets that are delivered there are dropped only if the stream has ended
+abbrev pub AreKept : EndpointState → ℕ → List ℕ → Type 0
+AreKept e n octets = ended (stream_at e n) ≡ false → delivery_at e n (next_number e n) (length octets) ≡ Kept
+
+-- The call, on the stream of the plan, takes one state to the other. Octets are delivered past all that came before, and
+-- none is dropped unless the stream has ended.
 abbrev pub Goes : Plan → Standing → Event → Standing → Type 0
 Goes p s (Lent buffer) s' =
     (s.phase ≡ Lending) × (buffer ≡ receive_buffer) ×
@@ -266,12 +272,8 @@ Goes p s (Accepted private) s' =
     (s.phase ≡ Accepting) × (private.items ≡ private_of p.part) ×
     (s' ≡ record s { endpoint = accepted s.endpoint p.number private; phase = Working })
 Goes p s (Delivered octets) s' =
-    (s.phase ≡ Listening) × MayHear p s.told s.posted ×
-    (s' ≡ record s {
-      endpoint = after_deliver s.endpoint p.number s.next octets;
-      next = (s.next + length octets) % 2 ^ 32;
-      phase = Working;
-    })
+    (s.phase ≡ Listening) × MayHear p s.told s.posted × AreKept s.endpoint p.number octets ×
+    (s' ≡ record s { endpoint = after_deliver s.endpoint p.number (next_number s.endpoint p.number) octets; phase = Working })
 Goes p s (Worked step) s' =
     (s.phase ≡ Working) × (step_at s.endpoint p.number ≡ Ok step) ×
     (s' ≡ record s { endpoint = after_work s.endpoint p.number; told = told_by s.told step; phase = after_step step })
@@ -339,28 +341,18 @@ pub record Exchanged (p : Plan) (s : Standing) (i o : Option (List ℕ)) (s' : S
   pub reads : Consumes i i' ins
   pub writes : Appends o o' outs
 
--- Octets that were read could not be delivered: memory ran out, and so the stream has not ended and some of them are
--- new.
-abbrev pub IsUndelivered : Plan → Standing → List ℕ → Type 0
-IsUndelivered p s octets =
-    (s.phase ≡ Listening) × (has_stream s.endpoint p.number ≡ true →
-    let stream = stream_at s.endpoint p.number in
-    (ended stream ≡ false) × BringsOctets stream.arrived (place_of stream s.next) (length octets - left_out stream s.next))
-
--- The same up to the break of the link, in any phase: what the reader gave was delivered, except octets for which
--- memory ran out; and what was emitted was written, or only the front of it.
+-- The same up to the break of the link, in any phase: what the reader gave was delivered, and what was emitted was
+-- written, or only the front of it.
 pub record Failed (p : Plan) (s : Standing) (i o : Option (List ℕ)) (at : Phase → ℕ → Standing) (i' o' : Option (List ℕ)) :
     Type 0 where
   pub phase : Phase
   pub posted : ℕ
   pub ins : List ℕ
-  pub lost : List ℕ
   pub written : List ℕ
   pub unwritten : List ℕ
   pub did : Did p s (at phase posted) ins (written ++ unwritten)
-  pub reads : Consumes i i' (ins ++ lost)
+  pub reads : Consumes i i' ins
   pub writes : Appends o o' written
-  pub undelivered : (lost ≡ []) ⊎ IsUndelivered p (at phase posted) lost
 
 -- The same up to a fault of the peer's start-up frame (RFC 5044 8), which closes the connection: all that was due before
 -- is written, and nothing more is read or written.
@@ -394,9 +386,8 @@ pub record Finished (p : Plan) (s : Standing) (i o : Option (List ℕ)) (at : Ph
 -- the input was read to its end, and the link did not break
 pub record Completed (p : Plan) (e : EndpointState) (i o : Option (List ℕ)) (e' : EndpointState) (i' o' : Option (List ℕ))
     (report : Report) : Type 0 where
-  pub next : ℕ
   pub told : Told
-  pub finished : Finished p (started p e) i o (λ phase posted. record { endpoint = e'; next = next; told = told; phase = phase; posted = posted }) i' o' told
+  pub finished : Finished p (started p e) i o (λ phase posted. record { endpoint = e'; told = told; phase = phase; posted = posted }) i' o' told
   pub is : report ≡ report_of told false
   pub end : IsAtEnd i'
 
@@ -404,18 +395,16 @@ pub record Completed (p : Plan) (e : EndpointState) (i o : Option (List ℕ)) (e
 pub record BrokeOff (p : Plan) (e : EndpointState) (i o : Option (List ℕ)) (e' : EndpointState) (i' o' : Option (List ℕ))
     (report : Report) : Type 0 where
   pub last : EndpointState
-  pub next : ℕ
   pub told : Told
-  pub failed : Failed p (started p e) i o (λ phase posted. record { endpoint = last; next = next; told = told; phase = phase; posted = posted }) i' o'
+  pub failed : Failed p (started p e) i o (λ phase posted. record { endpoint = last; told = told; phase = phase; posted = posted }) i' o'
   pub endpoint : e' ≡ after_break last p.number
   pub is : report ≡ report_of told true
 
 -- the peer's start-up frame was at fault: what is left of the input is not read, and the link did not break
 pub record ClosedOff (p : Plan) (e : EndpointState) (i o : Option (List ℕ)) (e' : EndpointState) (i' o' : Option (List ℕ))
     (report : Report) : Type 0 where
-  pub next : ℕ
   pub told : Told
-  pub closes : Closes p (started p e) i o (λ phase posted. record { endpoint = e'; next = next; told = told; phase = phase; posted = posted }) i' o'
+  pub closes : Closes p (started p e) i o (λ phase posted. record { endpoint = e'; told = told; phase = phase; posted = posted }) i' o'
   pub is : report ≡ report_of told false
 
 -- a connection: it was completed, or the peer's start-up frame closed it, or its link broke, and the report says which

@@ -19,7 +19,7 @@ told_in link = record { received = link.received; ended = link.ended }
 
 abbrev pub standing : EndpointState → Link → Phase → ℕ → Standing
 standing endpoint link phase posted =
-    record { endpoint = endpoint; next = link.next; told = told_in link; phase = phase; posted = posted }
+    record { endpoint = endpoint; told = told_in link; phase = phase; posted = posted }
 
 abbrev pub part_of : CodePart → Part
 part_of (parts.Serves region) = Serves region

@@ -150,10 +150,8 @@ fn await_answer<R: Read, W: Write>(
     out: &mut Vec<u8>,
     input: &mut Counted<R>,
     output: &mut W,
-    buffer: &mut [u8],
 ) -> Result<(), Stop>
     requires reads { input.old.reads ≤ 1000000 }
-    requires room { 0 < length buffer.old }
     ensures ok { OnOk result ((k : ℕ) → ReadsOn Until.Send (plan_of plan.now) (told_in link.old) k →
         Exchanged (plan_of plan.now) (standing endpoint.old link.old Listening k)
         (R.remaining input.old.reader) (W.contents output.old)
@@ -163,21 +161,11 @@ fn await_answer<R: Read, W: Write>(
         (R.remaining input.old.reader) (W.contents output.old)
         (standing endpoint.new link.new) (R.remaining input.new.reader) (W.contents output.new)) }
     ensures bounded { input.new.reads ≤ 1000000 }
-    ensures room { length buffer.new ≡ length buffer.old }
 {
     if !plan.terms.answers_at_once() {
         return Ok(());
     }
-    match hear(
-        Until::Send,
-        plan,
-        endpoint,
-        link,
-        out,
-        input,
-        output,
-        buffer,
-    ) {
+    match hear(Until::Send, plan, endpoint, link, out, input, output) {
         Ok(_) => Ok(()),
         Err(stop) => Err(stop),
     }
@@ -191,10 +179,8 @@ fn end_output<R: Read, W: Output>(
     out: &mut Vec<u8>,
     input: &mut Counted<R>,
     output: &mut W,
-    buffer: &mut [u8],
 ) -> Result<(), Stop>
     requires reads { input.old.reads ≤ 1000000 }
-    requires room { 0 < length buffer.old }
     ensures ok { OnOk result ((k : ℕ) → ReadsOn Until.Send (plan_of plan.now) (told_in link.old) k →
         Exchanged (plan_of plan.now) (standing endpoint.old link.old Listening k)
         (R.remaining input.old.reader) (W.contents output.old)
@@ -204,9 +190,8 @@ fn end_output<R: Read, W: Output>(
         (R.remaining input.old.reader) (W.contents output.old)
         (standing endpoint.new link.new) (R.remaining input.new.reader) (W.contents output.new)) }
     ensures bounded { input.new.reads ≤ 1000000 }
-    ensures room { length buffer.new ≡ length buffer.old }
 {
-    match await_answer(plan, endpoint, link, out, input, output, buffer) {
+    match await_answer(plan, endpoint, link, out, input, output) {
         Ok(()) => {}
         Err(stop) => return Err(stop),
     }
@@ -224,10 +209,8 @@ fn start_up<R: Read, W: Write>(
     out: &mut Vec<u8>,
     input: &mut Counted<R>,
     output: &mut W,
-    buffer: &mut [u8],
 ) -> Result<(), Stop>
     requires reads { input.old.reads ≤ 1000000 }
-    requires room { 0 < length buffer.old }
     ensures ok { OnOk result (((told : Told) → ReadsOn Until.Reply (plan_of plan.now) told 0) →
         Exchanged (plan_of plan.now) (standing endpoint.old link.old Speaking 0)
         (R.remaining input.old.reader) (W.contents output.old)
@@ -237,22 +220,12 @@ fn start_up<R: Read, W: Write>(
         (R.remaining input.old.reader) (W.contents output.old)
         (standing endpoint.new link.new) (R.remaining input.new.reader) (W.contents output.new)) }
     ensures bounded { input.new.reads ≤ 1000000 }
-    ensures room { length buffer.new ≡ length buffer.old }
 {
     match speak(plan, endpoint, link, out, output) {
         Ok(()) => {}
         Err(_) => return Err(Stop::Broken),
     }
-    match hear(
-        Until::Reply,
-        plan,
-        endpoint,
-        link,
-        out,
-        input,
-        output,
-        buffer,
-    ) {
+    match hear(Until::Reply, plan, endpoint, link, out, input, output) {
         Ok(_) => Ok(()),
         Err(stop) => Err(stop),
     }
@@ -267,11 +240,9 @@ fn speak_to<R: Read, W: Output>(
     text: &[u8],
     input: &mut Counted<R>,
     output: &mut W,
-    buffer: &mut [u8],
 ) -> Result<(), Stop>
     requires plan { plan.now.part ≡ Part.Asks text }
     requires reads { input.old.reads ≤ 1000000 }
-    requires room { 0 < length buffer.old }
     ensures ok { OnOk result (Finished (plan_of plan.now) (standing endpoint.old link.old Lending 0)
         (R.remaining input.old.reader) (W.contents output.old)
         (standing endpoint.new link.new) (R.remaining input.new.reader) (W.contents output.new) (told_in link.new)) }
@@ -280,14 +251,13 @@ fn speak_to<R: Read, W: Output>(
         (standing endpoint.new link.new) (R.remaining input.new.reader) (W.contents output.new)) }
     ensures end { OnOk result (IsAtEnd (R.remaining input.new.reader)) }
     ensures bounded { input.new.reads ≤ 1000000 }
-    ensures room { length buffer.new ≡ length buffer.old }
 {
     match lend(alloc, plan, endpoint, link) {
         Ok(()) => {}
         Err(_) => return Err(Stop::Broken),
     }
     let mut out = Vec::new(alloc);
-    match start_up(plan, endpoint, link, &mut out, input, output, buffer) {
+    match start_up(plan, endpoint, link, &mut out, input, output) {
         Ok(()) => {}
         Err(stop) => return Err(stop),
     }
@@ -295,20 +265,11 @@ fn speak_to<R: Read, W: Output>(
         Ok(()) => {}
         Err(_) => return Err(Stop::Broken),
     }
-    match end_output(plan, endpoint, link, &mut out, input, output, buffer) {
+    match end_output(plan, endpoint, link, &mut out, input, output) {
         Ok(()) => {}
         Err(stop) => return Err(stop),
     }
-    match hear(
-        Until::End,
-        plan,
-        endpoint,
-        link,
-        &mut out,
-        input,
-        output,
-        buffer,
-    ) {
+    match hear(Until::End, plan, endpoint, link, &mut out, input, output) {
         Ok(_) => {}
         Err(stop) => return Err(stop),
     }
@@ -325,8 +286,8 @@ fn speak_to<R: Read, W: Output>(
 ///
 /// The MPA Request is written before the first read. Each read is one delivery; after it, `ask` works until there is
 /// nothing to do and writes all that is due. The link breaks if the reader or writer fails, the input ends early, the
-/// Reply names no region, or memory runs out. Then nothing more is read or written. Nor is it if the Reply is at fault or
-/// rejects: the caller closes the connection (RFC 5044 8).
+/// Reply names no region, the window is full, or memory runs out. Then nothing more is read or written. Nor is it if the
+/// Reply is at fault or rejects: the caller closes the connection (RFC 5044 8).
 ///
 /// An `Err` means that the stream cannot be opened; nothing was read, written or changed.
 pub fn ask<R: Read, W: Output>(
@@ -336,10 +297,8 @@ pub fn ask<R: Read, W: Output>(
     text: &[u8],
     input: &mut Counted<R>,
     output: &mut W,
-    buffer: &mut [u8],
 ) -> Result<Report, OpenRefusal>
     requires reads { input.old.reads ≤ 1000000 }
-    requires room { 0 < length buffer.old }
     ensures served { IfOk result (λ report. Served (plan_for terms (Asks text.now))
         endpoint.old (R.remaining input.old.reader) (W.contents output.old)
         endpoint.new (R.remaining input.new.reader) (W.contents output.new) report) }
@@ -347,7 +306,6 @@ pub fn ask<R: Read, W: Output>(
     ensures input { OnErr result (input.new ≡ input.old) }
     ensures output { OnErr result (output.new ≡ output.old) }
     ensures bounded { input.new.reads ≤ 1000000 }
-    ensures room { length buffer.new ≡ length buffer.old }
 {
     match endpoint.open(terms.number, DOMAIN, Role::Initiator, terms.config()) {
         Ok(()) => {}
@@ -358,9 +316,7 @@ pub fn ask<R: Read, W: Output>(
         part: Part::Asks(text),
     };
     let mut link = Link::new();
-    match speak_to(
-        alloc, &plan, endpoint, &mut link, text, input, output, buffer,
-    ) {
+    match speak_to(alloc, &plan, endpoint, &mut link, text, input, output) {
         Ok(()) => Ok(link.into_report(false)),
         Err(Stop::Closed) => Ok(link.into_report(false)),
         Err(Stop::Broken) => Ok(break_off(&plan, endpoint, link)),

@@ -1,7 +1,9 @@
 ghost use Rattle.std.specs.Prelude.{◌≡◌, ℕ, ◌<◌, ◌≤◌, ◌⊎◌, length, take, Ok, Err, IfOk, IfErr, OnOk, OnErr};
 ghost use Rattle.std.specs.Io.{ReadsAtMost};
 ghost use Rattle.std.specs.Io.KnownBytes.{Consumes, IsAtEnd, Keeps};
+ghost use Rattle.iw_endpoint.specs.Reading.{IsRead};
 
+use iw_connection::{CallRefusal, Endpoint, Intake, StreamNumber, take};
 use std::io::{ErrorKind, Read};
 use thiserror::Error;
 
@@ -61,6 +63,40 @@ impl<R: Read> Counted<R> {
                         return Err(ReadFault::Failed);
                     }
                 }
+            }
+        }
+        Err(ReadFault::TooMany)
+    }
+
+    /// Reads once from a stream's connection, right to where the octets are to stand ([`iw_connection::take`]). An
+    /// interrupted read is made again, and counts. `Failed` also means out of memory, or that the endpoint has no such
+    /// stream; `TooMany` comes after 1,000,000 reads. An `Err` reads nothing, and leaves the endpoint as it was.
+    pub(crate) fn take_to(
+        &mut self,
+        endpoint: &mut Endpoint,
+        number: StreamNumber,
+    ) -> Result<Intake, ReadFault>
+        requires bounded { self.old.reads ≤ 1000000 }
+        ensures ok { IfOk result (λ intake.
+            IsRead endpoint.old endpoint.new number (R.remaining self.old.reader) (R.remaining self.new.reader) intake) }
+        ensures err { OnErr result (Keeps (R.remaining self.old.reader) (R.remaining self.new.reader)) }
+        ensures endpoint { OnErr result (endpoint.new ≡ endpoint.old) }
+        ensures bounded { self.new.reads ≤ 1000000 }
+        ensures progress { OnOk result (self.old.reads < self.new.reads) }
+        ensures kept { self.old.reads ≤ self.new.reads }
+        ensures fault { IfErr result (λ fault.
+            (fault ≡ ReadFault.Failed) ⊎ ((fault ≡ ReadFault.TooMany) × (self.new.reads ≡ 1000000))) }
+    {
+        for taken in self.reads..MOST_READS {
+            self.reads = taken + 1;
+            match take(endpoint, number, &mut self.reader) {
+                Ok(intake) => return Ok(intake),
+                Err(CallRefusal::Refused(error)) => {
+                    if error.kind() != ErrorKind::Interrupted {
+                        return Err(ReadFault::Failed);
+                    }
+                }
+                Err(CallRefusal::NoSuchStream) => return Err(ReadFault::Failed),
             }
         }
         Err(ReadFault::TooMany)

@@ -1,15 +1,15 @@
-ghost use Rattle.std.specs.Prelude.{◌≡◌, ◌<◌, ◌≤◌, length, List, ℕ, Option, None, Ok, IfOk, IfErr, OnOk, OnErr, true, false};
-ghost use Rattle.std.specs.Io.KnownBytes.{Consumes, IsAtEnd};
-ghost use Rattle.iw_links.specs.Exchange.{Exchanged, Failed, IsSettled, MayHear, after_break, answers_at_once, config_of, report_of, send_of};
-ghost use Rattle.iw_links.specs.Exchange.{Listening, Speaking};
+ghost use Rattle.std.specs.Prelude.{◌≡◌, ◌≤◌, List, ℕ, Option, None, Ok, IfOk, IfErr, OnOk, OnErr, true, false};
+ghost use Rattle.std.specs.Io.KnownBytes.{IsAtEnd};
+ghost use Rattle.iw_links.specs.Exchange.{Exchanged, Failed, IsSettled, after_break, answers_at_once, config_of, report_of, send_of};
+ghost use Rattle.iw_links.specs.Exchange.{Listening, Speaking, Working};
 ghost use Rattle.iw_links.specs.Standing.{standing, told_in, plan_of, is_over, ReadsOn, Stopped};
 
 use crate::counted::Counted;
-use crate::link::{Broken, Link, Stop, deliver, emit_all, work_all};
+use crate::link::{Broken, Link, Stop, emit_all, work_all};
 use crate::plan::Plan;
 use crate::report::Report;
 use bytes::Bytes;
-use iw_connection::StreamNumber;
+use iw_connection::{Intake, StreamNumber};
 use iw_endpoint::{Config, Endpoint, Establishment, Message, PrivateData, Request};
 use iw_output::write_octets;
 use std::io::{Read, Write};
@@ -87,28 +87,21 @@ pub(crate) fn speak<W: Write>(
     }
 }
 
-// Delivers what was read, works, and writes what is due, unless the peer's start-up frame closes the connection.
+// Works, and writes what is due, unless the peer's start-up frame closes the connection.
 fn take_turn<W: Write>(
     plan: &Plan<'_>,
     endpoint: &mut Endpoint,
     link: &mut Link,
-    octets: &[u8],
     out: &mut Vec<u8>,
     output: &mut W,
 ) -> Result<(), Stop>
-    ensures ok { OnOk result ((k : ℕ) → MayHear (plan_of plan.now) (told_in link.old) k →
-        (i i' : Option (List ℕ)) → Consumes i i' octets.now →
-        Exchanged (plan_of plan.now) (standing endpoint.old link.old Listening k) i (W.contents output.old)
-        (standing endpoint.new link.new Listening k) i' (W.contents output.new)) }
-    ensures err { IfErr result (λ stop. (k : ℕ) → MayHear (plan_of plan.now) (told_in link.old) k →
-        (i i' : Option (List ℕ)) → Consumes i i' octets.now →
-        Stopped stop (plan_of plan.now) (standing endpoint.old link.old Listening k) i (W.contents output.old)
-        (standing endpoint.new link.new) i' (W.contents output.new)) }
+    ensures ok { OnOk result ((i : Option (List ℕ)) (k : ℕ) →
+        Exchanged (plan_of plan.now) (standing endpoint.old link.old Working k) i (W.contents output.old)
+        (standing endpoint.new link.new Listening k) i (W.contents output.new)) }
+    ensures err { IfErr result (λ stop. (i : Option (List ℕ)) (k : ℕ) →
+        Stopped stop (plan_of plan.now) (standing endpoint.old link.old Working k) i (W.contents output.old)
+        (standing endpoint.new link.new) i (W.contents output.new)) }
 {
-    match deliver(plan, endpoint, link, octets) {
-        Ok(()) => {}
-        Err(_) => return Err(Stop::Broken),
-    }
     match work_all(plan, endpoint, link) {
         Ok(()) => {}
         Err(stop) => return Err(stop),
@@ -144,7 +137,8 @@ impl Until {
 }
 
 /// Reads, until that is over; after each read, which is one delivery, works and writes what is due. Returns whether the
-/// input has ended. If the peer's start-up frame closes the connection, nothing more is read or written.
+/// input has ended. If the peer's start-up frame closes the connection, nothing more is read or written. The link breaks
+/// if the window is full.
 pub(crate) fn hear<R: Read, W: Write>(
     until: Until,
     plan: &Plan<'_>,
@@ -153,10 +147,8 @@ pub(crate) fn hear<R: Read, W: Write>(
     out: &mut Vec<u8>,
     input: &mut Counted<R>,
     output: &mut W,
-    buffer: &mut [u8],
 ) -> Result<bool, Stop>
     requires reads { input.old.reads ≤ 1000000 }
-    requires room { 0 < length buffer.old }
     ensures ok { OnOk result ((k : ℕ) → ReadsOn until (plan_of plan.now) (told_in link.old) k →
         Exchanged (plan_of plan.now) (standing endpoint.old link.old Listening k)
         (R.remaining input.old.reader) (W.contents output.old)
@@ -168,21 +160,18 @@ pub(crate) fn hear<R: Read, W: Write>(
     ensures end { result ≡ Ok true → IsAtEnd (R.remaining input.new.reader) }
     ensures whole { until ≡ Until.End → IfOk result (λ end. end ≡ true) }
     ensures bounded { input.new.reads ≤ 1000000 }
-    ensures room { length buffer.new ≡ length buffer.old }
 {
     'reads: for _ in 0..u64::MAX {
         if until.is_over(link) {
             return Ok(false);
         }
-        match input.next(buffer) {
-            Ok(0) => return Ok(true),
-            Ok(n) => {
-                let octets = &buffer[..n];
-                match take_turn(plan, endpoint, link, octets, out, output) {
-                    Ok(()) => {}
-                    Err(stop) => return Err(stop),
-                }
-            }
+        match input.take_to(endpoint, plan.terms.number) {
+            Ok(Intake::Came(_)) => match take_turn(plan, endpoint, link, out, output) {
+                Ok(()) => {}
+                Err(stop) => return Err(stop),
+            },
+            Ok(Intake::End) => return Ok(true),
+            Ok(Intake::Full) => return Err(Stop::Broken),
             Err(_) => return Err(Stop::Broken),
         }
     }

@@ -1,11 +1,11 @@
-ghost use Rattle.std.specs.Prelude.{◌≡◌, ◌+◌, ◌%◌, ◌≤◌, ◌^◌, ◌++◌, [], length, take, List, ℕ, if◌then◌else◌};
+ghost use Rattle.std.specs.Prelude.{◌≡◌, ◌+◌, ◌≤◌, ◌++◌, [], length, take, List, ℕ, if◌then◌else◌};
 ghost use Rattle.std.specs.Prelude.{Some, None, Ok, IfOk, IfErr, OnOk, OnErr};
 ghost use Rattle.iw_memory.specs.Table.{next_stag};
 ghost use Rattle.iw_stream.specs.Kept.{IsWithinBuffer};
 ghost use Rattle.iw_endpoint.specs.Endpoint.{fresh, added, registered};
 ghost use Rattle.iw_links.specs.Exchange.{Did, Emits, report_of, told_by, with_domain, writable, zero_octets};
 ghost use Rattle.iw_links.specs.Exchange.{Phase, Lending, Listening, Working, Accepting, Speaking, after_lending, after_step};
-ghost use Rattle.iw_links.specs.Exchange.{IsDue, IsUndelivered, MayHear};
+ghost use Rattle.iw_links.specs.Exchange.{IsDue};
 ghost use Rattle.iw_links.specs.Standing.{standing, told_in, plan_of, phase_of, Halts};
 
 use crate::plan::Plan;
@@ -18,16 +18,13 @@ use std::alloc::{AllocError, Global};
 /// The protection domain of all connections.
 pub(crate) const DOMAIN: u8 = 1;
 
-/// The most octets that one read takes: the size of a read buffer.
-pub const MOST_READ: usize = 65_536;
-
 /// The most octets of a text, and the size of the receive buffer.
 pub const MOST_TEXT: usize = 4_096;
 
 // How many octets the region of a listening end has.
 const REGION: usize = 65_536;
 
-/// The link broke: a reader or writer failed, the peer did not do its part, or memory ran out.
+/// The link broke: a reader or writer failed, the peer did not do its part, the window was full, or memory ran out.
 #[derive(Clone, Copy, Debug, PartialEq, Eq)]
 pub(crate) struct Broken;
 
@@ -44,7 +41,7 @@ pub(crate) enum Stop {
 pub fn caller(alloc: Global) -> Result<Endpoint, AllocError>
     ensures { IfOk result (λ endpoint. endpoint ≡ with_domain) }
 {
-    let mut endpoint = Endpoint::new(alloc)?;
+    let mut endpoint = Endpoint::new(alloc);
     match endpoint.add_domain(DOMAIN) {
         Ok(()) => Ok(endpoint),
         Err(_) => Err(AllocError),
@@ -82,8 +79,6 @@ pub fn listener(alloc: Global) -> Result<(Endpoint, Stag), AllocError>
 /// The state of a connection.
 #[derive(Drop)]
 pub(crate) struct Link {
-    /// The sequence number of the octet that comes next.
-    pub(crate) next: u32,
     /// The octets of the Send that was received.
     pub(crate) received: Option<Octets>,
     /// How the stream ended.
@@ -95,12 +90,10 @@ pub(crate) struct Link {
 impl Link {
     /// A new connection.
     pub(crate) fn new() -> Link
-        ensures next { result.next ≡ 0 }
         ensures received { result.received ≡ None }
         ensures ended { result.ended ≡ None }
     {
         Link {
-            next: 0,
             received: None,
             ended: None,
             is_open: false,
@@ -122,7 +115,6 @@ impl Link {
     fn tell(&mut self, step: Step<Octets>)
         requires { IsWithinBuffer step }
         ensures told { told_in self.new ≡ told_by (told_in self.old) step }
-        ensures next { self.new.next ≡ self.old.next }
     {
         match step {
             Step::Received { buffer, len, .. } => {
@@ -186,37 +178,6 @@ pub(crate) fn post(
         Err(_) => {}
     }
     Err(Broken)
-}
-
-// The sequence number that follows these octets, the first of which has this one. It wraps.
-fn number_after(number: u32, octets: &[u8]) -> u32
-    ensures { result ≡ (number + length octets.now) % 2 ^ 32 }
-{
-    ((u64::from(number) + octets.len() as u64) % (1 << 32)) as u32
-}
-
-/// Delivers the octets of a read, with the sequence number that follows all that came before. An `Err` means out of
-/// memory, and changes nothing.
-pub(crate) fn deliver(
-    plan: &Plan<'_>,
-    endpoint: &mut Endpoint,
-    link: &mut Link,
-    octets: &[u8],
-) -> Result<(), Broken>
-    ensures ok { OnOk result ((k : ℕ) → MayHear (plan_of plan.now) (told_in link.old) k → Did (plan_of plan.now)
-        (standing endpoint.old link.old Listening k) (standing endpoint.new link.new Working k) octets.now []) }
-    ensures err { OnErr result (endpoint.new ≡ endpoint.old) }
-    ensures link { OnErr result (link.new ≡ link.old) }
-    ensures lost { OnErr result ((k : ℕ) →
-        IsUndelivered (plan_of plan.now) (standing endpoint.old link.old Listening k) octets.now) }
-{
-    match endpoint.deliver(plan.terms.number, link.next, octets) {
-        Ok(_) => {
-            link.next = number_after(link.next, octets);
-            Ok(())
-        }
-        Err(_) => Err(Broken),
-    }
 }
 
 // Accepts the peer's Request. An `Err` changes nothing.

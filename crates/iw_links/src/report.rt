@@ -21,7 +21,7 @@ pub struct Report {
     /// How the stream ended, if the peer caused it.
     pub ended: Option<Ended>,
     /// The link broke: the reader or writer failed, the peer's output ended before a Send was received on a stream that
-    /// had not ended, the Reply did not name a region, or memory ran out.
+    /// had not ended, the Reply did not name a region, the window was full, or memory ran out.
     pub broken: bool,
 }
 

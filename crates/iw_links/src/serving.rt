@@ -130,11 +130,9 @@ fn answer_after<R: Read, W: Write>(
     out: &mut Vec<u8>,
     input: &mut Counted<R>,
     output: &mut W,
-    buffer: &mut [u8],
 ) -> Result<(), Stop>
     requires plan { plan.now.part ≡ Part.Serves region }
     requires reads { input.old.reads ≤ 1000000 }
-    requires room { 0 < length buffer.old }
     ensures ok { OnOk result (ReadsOn until (plan_of plan.now) (told_in link.old) 0 →
         Finished (plan_of plan.now) (standing endpoint.old link.old Listening 0)
         (R.remaining input.old.reader) (W.contents output.old)
@@ -145,9 +143,8 @@ fn answer_after<R: Read, W: Write>(
         (standing endpoint.new link.new) (R.remaining input.new.reader) (W.contents output.new)) }
     ensures end { until ≡ Until.End → OnOk result (IsAtEnd (R.remaining input.new.reader)) }
     ensures bounded { input.new.reads ≤ 1000000 }
-    ensures room { length buffer.new ≡ length buffer.old }
 {
-    match hear(until, plan, endpoint, link, out, input, output, buffer) {
+    match hear(until, plan, endpoint, link, out, input, output) {
         Ok(_) => {}
         Err(stop) => return Err(stop),
     }
@@ -171,12 +168,10 @@ fn answer_at_once<R: Read, W: Write>(
     out: &mut Vec<u8>,
     input: &mut Counted<R>,
     output: &mut W,
-    buffer: &mut [u8],
 ) -> Result<(), Stop>
     requires plan { plan.now.part ≡ Part.Serves region }
     requires at_once { answers_at_once plan.now.terms.establishment ≡ true }
     requires reads { input.old.reads ≤ 1000000 }
-    requires room { 0 < length buffer.old }
     ensures ok { OnOk result (Finished (plan_of plan.now) (standing endpoint.old link.old Listening 0)
         (R.remaining input.old.reader) (W.contents output.old)
         (standing endpoint.new link.new) (R.remaining input.new.reader) (W.contents output.new) (told_in link.new)) }
@@ -185,7 +180,6 @@ fn answer_at_once<R: Read, W: Write>(
         (standing endpoint.new link.new) (R.remaining input.new.reader) (W.contents output.new)) }
     ensures end { OnOk result (IsAtEnd (R.remaining input.new.reader)) }
     ensures bounded { input.new.reads ≤ 1000000 }
-    ensures room { length buffer.new ≡ length buffer.old }
 {
     match answer_after(
         Until::Send,
@@ -197,12 +191,11 @@ fn answer_at_once<R: Read, W: Write>(
         out,
         input,
         output,
-        buffer,
     ) {
         Ok(()) => {}
         Err(stop) => return Err(stop),
     }
-    match hear(Until::End, plan, endpoint, link, out, input, output, buffer) {
+    match hear(Until::End, plan, endpoint, link, out, input, output) {
         Ok(_) => Ok(()),
         Err(stop) => Err(stop),
     }
@@ -218,11 +211,9 @@ fn await_peer<R: Read, W: Write>(
     out: &mut Vec<u8>,
     input: &mut Counted<R>,
     output: &mut W,
-    buffer: &mut [u8],
 ) -> Result<(), Stop>
     requires plan { plan.now.part ≡ Part.Serves region }
     requires reads { input.old.reads ≤ 1000000 }
-    requires room { 0 < length buffer.old }
     ensures ok { OnOk result (Finished (plan_of plan.now) (standing endpoint.old link.old Listening 0)
         (R.remaining input.old.reader) (W.contents output.old)
         (standing endpoint.new link.new) (R.remaining input.new.reader) (W.contents output.new) (told_in link.new)) }
@@ -231,12 +222,9 @@ fn await_peer<R: Read, W: Write>(
         (standing endpoint.new link.new) (R.remaining input.new.reader) (W.contents output.new)) }
     ensures end { OnOk result (IsAtEnd (R.remaining input.new.reader)) }
     ensures bounded { input.new.reads ≤ 1000000 }
-    ensures room { length buffer.new ≡ length buffer.old }
 {
     if plan.terms.answers_at_once() {
-        return answer_at_once(
-            alloc, plan, endpoint, link, region, out, input, output, buffer,
-        );
+        return answer_at_once(alloc, plan, endpoint, link, region, out, input, output);
     }
     match answer_after(
         Until::End,
@@ -248,7 +236,6 @@ fn await_peer<R: Read, W: Write>(
         out,
         input,
         output,
-        buffer,
     ) {
         Ok(()) => Ok(()),
         Err(stop) => Err(stop),
@@ -264,11 +251,9 @@ fn listen_to<R: Read, W: Output>(
     region: Stag,
     input: &mut Counted<R>,
     output: &mut W,
-    buffer: &mut [u8],
 ) -> Result<(), Stop>
     requires plan { plan.now.part ≡ Part.Serves region }
     requires reads { input.old.reads ≤ 1000000 }
-    requires room { 0 < length buffer.old }
     ensures ok { OnOk result (Finished (plan_of plan.now) (standing endpoint.old link.old Lending 0)
         (R.remaining input.old.reader) (W.contents output.old)
         (standing endpoint.new link.new) (R.remaining input.new.reader) (W.contents output.new) (told_in link.new)) }
@@ -277,16 +262,13 @@ fn listen_to<R: Read, W: Output>(
         (standing endpoint.new link.new) (R.remaining input.new.reader) (W.contents output.new)) }
     ensures end { OnOk result (IsAtEnd (R.remaining input.new.reader)) }
     ensures bounded { input.new.reads ≤ 1000000 }
-    ensures room { length buffer.new ≡ length buffer.old }
 {
     match lend(alloc, plan, endpoint, link) {
         Ok(()) => {}
         Err(_) => return Err(Stop::Broken),
     }
     let mut out = Vec::new(alloc);
-    match await_peer(
-        alloc, plan, endpoint, link, region, &mut out, input, output, buffer,
-    ) {
+    match await_peer(alloc, plan, endpoint, link, region, &mut out, input, output) {
         Ok(()) => Ok(()),
         Err(stop) => Err(stop),
     }
@@ -298,8 +280,8 @@ fn listen_to<R: Read, W: Output>(
 /// alone. The caller then closes the connection.
 ///
 /// Each read is one delivery; after it, `serve` works until there is nothing to do and writes all that is due. The link
-/// breaks if the reader or writer fails, the input ends early, or memory runs out. Then nothing more is read or
-/// written. Nor is it if the peer's MPA Request is at fault (RFC 5044 8).
+/// breaks if the reader or writer fails, the input ends early, the window is full, or memory runs out. Then nothing more is
+/// read or written. Nor is it if the peer's MPA Request is at fault (RFC 5044 8).
 ///
 /// An `Err` means that the stream cannot be opened; nothing was read, written or changed.
 pub fn serve<R: Read, W: Output>(
@@ -309,10 +291,8 @@ pub fn serve<R: Read, W: Output>(
     region: Stag,
     input: &mut Counted<R>,
     output: &mut W,
-    buffer: &mut [u8],
 ) -> Result<Report, OpenRefusal>
     requires reads { input.old.reads ≤ 1000000 }
-    requires room { 0 < length buffer.old }
     ensures served { IfOk result (λ report. Served (plan_for terms (Serves region))
         endpoint.old (R.remaining input.old.reader) (W.contents output.old)
         endpoint.new (R.remaining input.new.reader) (W.contents output.new) report) }
@@ -320,7 +300,6 @@ pub fn serve<R: Read, W: Output>(
     ensures input { OnErr result (input.new ≡ input.old) }
     ensures output { OnErr result (output.new ≡ output.old) }
     ensures bounded { input.new.reads ≤ 1000000 }
-    ensures room { length buffer.new ≡ length buffer.old }
 {
     match endpoint.open(terms.number, DOMAIN, Role::Responder, terms.config()) {
         Ok(()) => {}
@@ -331,9 +310,7 @@ pub fn serve<R: Read, W: Output>(
         part: Part::Serves(region),
     };
     let mut link = Link::new();
-    match listen_to(
-        alloc, &plan, endpoint, &mut link, region, input, output, buffer,
-    ) {
+    match listen_to(alloc, &plan, endpoint, &mut link, region, input, output) {
         Ok(()) => Ok(link.into_report(false)),
         Err(Stop::Closed) => Ok(link.into_report(false)),
         Err(Stop::Broken) => Ok(break_off(&plan, endpoint, link)),

@@ -1,4 +1,4 @@
-use Rattle.std.proofs.Common.{◌≡◌, rules}
+use Rattle.std.proofs.Common.{◌≡◌}
 use Rattle.iw_output.specs.Status.{with}
 use Rattle.iw_commands.specs.Status.{report_status}
 use Rattle.iw_commands.proofs.MoreLines.{nothing_yet, prints_on, stops_at}
@@ -11,7 +11,6 @@ loop-stream-preserved g c =
     let told = rw c.at-terms.ensures at c.serve_next-report.ensures.told in
     record {
       printed = rw ends (prints_on _ _ _ _ _ _ _ _ _ _ _ c.loop-stream.invariant.printed told c.in-Ok.ensures.ok);
-      room = search rules;
     }
 
 pub returns-in-Err-clause-stopped : goal.returns-in-Err-clause-stopped
@@ -20,4 +19,4 @@ returns-in-Err-clause-stopped g c =
     stops_at _ _ _ _ _ _ _ _ _ _ _ _ _ c.loop-stream.invariant.printed c.loop-stream-test.true told c.in-Err.ensures.err.1
 
 pub loop-stream-init : goal.loop-stream-init
-loop-stream-init g c = record { printed = nothing_yet _ _ _ _; room = search rules }
+loop-stream-init g c = record { printed = nothing_yet _ _ _ _ }

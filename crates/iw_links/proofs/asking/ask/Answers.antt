@@ -6,30 +6,27 @@ use Rattle.iw_links.proofs.asking.ask.Goals as goal
 
 pub returns-in-Ok-speak_to-clause-served : goal.returns-in-Ok-speak_to-clause-served
 returns-in-Ok-speak_to-clause-served g c = inl (record {
-  next = c.speak_to.new.link.next;
   told = told_in c.speak_to.new.link;
-  finished = begins (plan_for c.args.terms (Asks c.args.text.now)) _ _ _ _ _ _ _ _ _ _ _ (rw c.config.ensures at c.in-Ok.ensures.ok)
-      c.new-link.ensures.next c.new-link.ensures.received c.new-link.ensures.ended c.in-Ok-speak_to.ensures.ok;
+  finished = begins (plan_for c.args.terms (Asks c.args.text.now)) _ _ _ _ _ _ _ _ _ _ (rw c.config.ensures at c.in-Ok.ensures.ok)
+      c.new-link.ensures.received c.new-link.ensures.ended c.in-Ok-speak_to.ensures.ok;
   is = c.into_report.ensures;
   end = c.in-Ok-speak_to.ensures.end;
 })
 
 pub returns-in-Err-Closed-clause-served : goal.returns-in-Err-Closed-clause-served
 returns-in-Err-Closed-clause-served g c = inr (inl (record {
-  next = c.speak_to.new.link.next;
   told = told_in c.speak_to.new.link;
-  closes = begins_to_close (plan_for c.args.terms (Asks c.args.text.now)) _ _ _ _ _ _ _ _ _ _ (rw c.config.ensures at c.in-Ok.ensures.ok)
-      c.new-link.ensures.next c.new-link.ensures.received c.new-link.ensures.ended (rw c.in-Err-Closed.field-0-is at c.in-Err-Closed.ensures.err);
+  closes = begins_to_close (plan_for c.args.terms (Asks c.args.text.now)) _ _ _ _ _ _ _ _ _ (rw c.config.ensures at c.in-Ok.ensures.ok)
+      c.new-link.ensures.received c.new-link.ensures.ended (rw c.in-Err-Closed.field-0-is at c.in-Err-Closed.ensures.err);
   is = c.into_report-in-Err-Closed.ensures;
 }))
 
 pub returns-in-Err-Broken-clause-served : goal.returns-in-Err-Broken-clause-served
 returns-in-Err-Broken-clause-served g c = inr (inr (record {
   last = c.speak_to.new.endpoint;
-  next = c.speak_to.new.link.next;
   told = told_in c.speak_to.new.link;
-  failed = begins_to_fail (plan_for c.args.terms (Asks c.args.text.now)) _ _ _ _ _ _ _ _ _ _ (rw c.config.ensures at c.in-Ok.ensures.ok)
-      c.new-link.ensures.next c.new-link.ensures.received c.new-link.ensures.ended (rw c.in-Err-Broken.field-0-is at c.in-Err-Broken.ensures.err);
+  failed = begins_to_fail (plan_for c.args.terms (Asks c.args.text.now)) _ _ _ _ _ _ _ _ _ (rw c.config.ensures at c.in-Ok.ensures.ok)
+      c.new-link.ensures.received c.new-link.ensures.ended (rw c.in-Err-Broken.field-0-is at c.in-Err-Broken.ensures.err);
   endpoint = c.break_off.ensures.endpoint;
   is = c.break_off.ensures.report;
 }))

@@ -1,4 +1,4 @@
-use Rattle.std.proofs.Common.{ℕ, ◌≡◌, ◌≤◌, length}
+use Rattle.std.proofs.Common.{ℕ, ◌≤◌}
 use Rattle.iw_links.specs.Exchange.{Exchanged, Listening}
 use Rattle.iw_links.specs.Standing.{standing, told_in, plan_of, ReadsOn}
 use Rattle.iw_links.proofs.exchange.hear.Given as goal
@@ -9,5 +9,4 @@ invariant-reads g l = record {
       Exchanged (plan_of l.fn.plan) (standing l.fn.endpoint l.fn.link Listening k) (g.R.Read.remaining l.fn.input.reader) (g.W.Write.contents l.fn.output)
       (standing l.endpoint l.link Listening k) (g.R.Read.remaining l.input.reader) (g.W.Write.contents l.output);
   bounded : l.input.reads ≤ 1000000;
-  room : length l.buffer ≡ length l.fn.buffer;
 }

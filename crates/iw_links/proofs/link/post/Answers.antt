@@ -4,4 +4,4 @@ use Rattle.iw_links.proofs.link.post.Goals as goal
 
 pub returns-in-Ok-clause-ok : goal.returns-in-Ok-clause-ok
 returns-in-Ok-clause-ok c = λ phase k due.
-    posts (plan_of c.args.plan.now) _ _ _ (told_in c.args.link.now) phase k _ due c.in-Ok.ensures.ok
+    posts (plan_of c.args.plan.now) _ _ (told_in c.args.link.now) phase k _ due c.in-Ok.ensures.ok
