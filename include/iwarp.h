@@ -1,20 +1,23 @@
 /* An iWARP endpoint for C programs: RDMAP over DDP over MPA (RFC 5040, 5041, 5044), over sockets that the program owns.
  *
- * A handle holds the registered regions of one end and its streams, by numbers from 0 to 63. It does no input or
- * output, starts no thread, keeps no time and calls nothing of the program but malloc, realloc and free. The program
+ * A handle holds the registered regions of one end and its streams, by number. It does no input or output, starts no
+ * thread, keeps no time and calls nothing of the program but malloc, realloc and free. The program
  *
  * 1. opens a handle (iwarp_new), adds a protection domain (iwarp_add_domain), and registers what peers may use
  *    (iwarp_register);
- * 2. opens a stream for each connection (iwarp_open), and posts receive buffers (iwarp_post_recv); or gives the domain
- *    a pool of receive buffers (iwarp_share, iwarp_post_shared), and opens streams that share it (iwarp_open_shared);
- * 3. when octets came: hands them in with the sequence number of the first of them, which is the number of octets that
- *    came before it, modulo 2^32 (iwarp_deliver), then calls iwarp_work_on, or iwarp_work, until it reports IWARP_IDLE.
- *    At IWARP_ASKED it calls iwarp_accept or iwarp_reject and goes on;
- * 4. when the socket is writable: calls iwarp_emit until it reports IWARP_NOTHING, and writes out what each call gave;
+ * 2. opens a stream for each connection (iwarp_open_next; iwarp_open, to pick its number), and posts receive buffers
+ *    (iwarp_post_recv); or gives the domain a pool of receive buffers (iwarp_share, iwarp_post_shared), and opens streams
+ *    that share it (iwarp_open_shared_next, iwarp_open_shared);
+ * 3. when octets came: reads them to the place that iwarp_room lends, and has iwarp_came count them; or hands them in with
+ *    the sequence number of the first of them, which is the number of octets that came before it, modulo 2^32
+ *    (iwarp_deliver). Then it calls iwarp_work_on, or iwarp_work, until it reports IWARP_IDLE. At IWARP_ASKED it calls
+ *    iwarp_accept or iwarp_reject and goes on;
+ * 4. when the socket is writable: calls iwarp_emit until it reports IWARP_NOTHING, and writes out what each call gave.
+ *    iwarp_wants_write tells when to wait for that;
  * 5. after IWARP_OPENED or a successful iwarp_accept: posts Writes, Sends and Reads (iwarp_post_write and so on), then
  *    does 4;
  * 6. when the connection closed: calls iwarp_break, then iwarp_work_on until IWARP_IDLE, which hands back what was
- *    posted.
+ *    posted, and iwarp_close, which frees the stream's memory.
  *
  * A caller must uphold, at each call:
  *
@@ -23,7 +26,7 @@
  *   copies is used from then on. Nothing else writes its field.
  * - The program reads and writes the octets of its buffers and regions, at the addresses that iwarp_buffer_at and
  *   iwarp_region_at tell, only between calls on that buffer or on that region's handle, and passes no pointer to them to
- *   such a call.
+ *   such a call. It writes to a place that iwarp_room lent only before the next call on that handle.
  * - No pointer is null, even if its count is 0. `octets` and `private_data` point to `n` octets that can be read, and
  *   that nothing writes during the call; `out` points to `room` octets that can be written. What the pointers of one
  *   call point to does not overlap.
@@ -88,7 +91,7 @@ enum {
     IWARP_ALREADY_OPEN = 2,
     IWARP_NO_MEMORY = 3,
     IWARP_NO_ROOM = 4, /* the buffer is too short; `*n` is the length that is needed */
-    IWARP_NO_SUCH_STREAM = 5, /* no stream was opened under this number */
+    IWARP_NO_SUCH_STREAM = 5, /* no stream was opened under this number, or it was closed */
     IWARP_NO_REGION = 6, /* the STag names no region */
     IWARP_OUTSIDE = 7, /* not all the octets lie in the region */
     IWARP_BAD_DOMAIN = 8, /* 0, or a number above 255, is not a domain's number */
@@ -98,7 +101,7 @@ enum {
     IWARP_REGION_TOO_LONG = 12, /* more than 16,777,216 octets */
     IWARP_BASE_WRAP = 13, /* base + n is above 2^64 */
     IWARP_NUMBER_TAKEN = 14, /* the stream's number was opened before */
-    IWARP_BAD_NUMBER = 15, /* it is above 63 */
+    IWARP_BAD_NUMBER = 15, /* the number that was picked is above 63 */
     IWARP_BAD_ROLE = 16,
     IWARP_PRIVATE_TOO_LONG = 17, /* more than 512 octets; more than 508 in an enhanced start-up frame */
     IWARP_NOT_ASKED = 18, /* no MPA Request is pending */
@@ -118,7 +121,11 @@ enum {
     IWARP_BUFFER_EXISTS = 32, /* the buffer was made before, and not freed */
     IWARP_BUFFER_TOO_LONG = 33, /* a receive buffer of more than 16,777,216 octets */
     IWARP_BAD_BITS = 34, /* rights, options or flags have a bit that this header does not name */
-    IWARP_NO_READS = 35 /* the peer takes no Reads: its IRD is 0 */
+    IWARP_NO_READS = 35, /* the peer takes no Reads: its IRD is 0 */
+    IWARP_NOT_AT_REST = 36, /* the stream is open, or has something left to hand back or to emit */
+    IWARP_NUMBERS_SPENT = 37, /* all numbers of streams, up to 2^32 - 1, were given */
+    IWARP_WINDOW_FULL = 38, /* the stream's window has no room before iwarp_work makes some */
+    IWARP_NOT_LENT = 39 /* no place was lent for so many octets, or they are none */
 };
 
 /* Tells the address of a text that says what a code means. The text is never freed. */
@@ -176,6 +183,8 @@ struct iwarp_facts {
     uint64_t len;
     uint32_t rights; /* a sum of IWARP_WRITE and so on */
     uint32_t valid; /* 1 if peers may use it, else 0 */
+    uint32_t limited; /* 1 if it is limited to one stream, else 0 */
+    uint32_t stream; /* the stream that it is limited to; 0 if it is not limited */
 };
 
 /* Registers a copy of the octets as a region, the first of them at tagged offset `base`. `*stag` is the STag by which
@@ -191,6 +200,17 @@ int32_t iwarp_deregister(struct iwarp *handle, uint32_t stag, uint8_t *out, size
  * then. If it is refused, the buffer keeps them. */
 int32_t iwarp_register_buffer(struct iwarp *handle, uint32_t pd, uint64_t base, struct iwarp_buffer *buffer, uint32_t rights,
                               uint32_t *stag);
+
+/* Registers a copy of the octets for one stream: the region is in the stream's domain, and to the peers of other streams its
+ * STag is as one of another domain (RFC 5042 6.1.1). When the stream is closed it becomes invalid, and stays registered.
+ * IWARP_ENDED: the stream has ended. */
+int32_t iwarp_register_for(struct iwarp *handle, uint32_t stream, uint64_t base, const uint8_t *octets, size_t n,
+                           uint32_t rights, uint32_t *stag);
+
+/* Registers the buffer's octets themselves for one stream, as iwarp_register_for does a copy, and takes them as
+ * iwarp_register_buffer does. */
+int32_t iwarp_register_buffer_for(struct iwarp *handle, uint32_t stream, uint64_t base, struct iwarp_buffer *buffer,
+                                  uint32_t rights, uint32_t *stag);
 
 /* Deregisters a region, valid or not: its octets are the buffer's then, with nothing copied, and those that the buffer had
  * are freed. `buffer` was made, with 0 octets for instance, or is the one that the region was registered from. */
@@ -254,6 +274,12 @@ enum {
 int32_t iwarp_open(struct iwarp *handle, uint32_t stream, uint32_t pd, uint32_t role, uint32_t options,
                    const uint8_t *private_data, size_t n);
 
+/* As iwarp_open, but the library picks the number: `*stream`. The numbers count from 64 up, each is given once, and as many
+ * streams may be open as memory has room for. For connections without end: open each stream by this call, and close it by
+ * iwarp_close. */
+int32_t iwarp_open_next(struct iwarp *handle, uint32_t pd, uint32_t role, uint32_t options, const uint8_t *private_data,
+                        size_t n, uint32_t *stream);
+
 /* Accepts the pending MPA Request, with this private data in the Reply. `*agreed` is a sum of IWARP_SENDS_MARKERS and
  * so on. */
 int32_t iwarp_accept(struct iwarp *handle, uint32_t stream, const uint8_t *private_data, size_t n, uint32_t *agreed);
@@ -266,9 +292,12 @@ int32_t iwarp_reject(struct iwarp *handle, uint32_t stream, const uint8_t *priva
  * frame was read. `*n` is how many octets they are, with IWARP_NO_ROOM too. */
 int32_t iwarp_private(struct iwarp *handle, uint32_t stream, uint8_t *out, size_t room, size_t *n);
 
-/* What the peer told in an enhanced start-up frame (RFC 6581 9). Without one all fields are 0. */
+/* What the peer told in its start-up frame. Before that was read, and on a preset stream, all fields are 0. */
 struct iwarp_told {
-    uint32_t has_word; /* 1 if the frame was read and tells these */
+    uint32_t revision; /* of MPA: 1 or 2 */
+    uint32_t markers; /* 1 if this end is to put markers into what it sends */
+    uint32_t crc; /* 1 if CRCs are to be used, in both directions */
+    uint32_t has_word; /* 1 if the frame is enhanced (RFC 6581 9) and tells what follows, else 0, and so is what follows */
     uint32_t ird; /* how many Reads the peer takes at once: this end has no more outstanding, and never more than 16 */
     uint32_t ord; /* how many Reads the peer wants to have outstanding */
     uint32_t peer_to_peer; /* 1 if it asks for the peer-to-peer model (A); the RTR may be a */
@@ -280,9 +309,24 @@ struct iwarp_told {
 /* Writes what the peer told in its start-up frame, once that was read: at IWARP_ASKED, and from IWARP_OPENED on. */
 int32_t iwarp_told(struct iwarp *handle, uint32_t stream, struct iwarp_told *told);
 
+/* How far a stream is in its life. */
+enum {
+    IWARP_STATE_STARTING = 0, /* its start-up goes on: of postings only receive buffers are taken */
+    IWARP_STATE_OPEN = 1, /* messages may be posted */
+    IWARP_STATE_ENDED = 2 /* it has ended; a start-up frame or a Terminate may still be due */
+};
+
+/* Tells whether a stream is starting, is open or has ended: IWARP_STATE_STARTING and so on. */
+int32_t iwarp_state(struct iwarp *handle, uint32_t stream, uint32_t *state);
+
 /* Reports that the connection broke or closed: the stream has ended, and nothing more is emitted, not even a pending
  * Terminate. */
 int32_t iwarp_break(struct iwarp *handle, uint32_t stream);
+
+/* Forgets a stream and frees its memory. The stream must be at rest: it has ended, iwarp_work reports IWARP_IDLE, and
+ * iwarp_emit IWARP_NOTHING; iwarp_break drops what is left to emit. What it handed back and was not fetched is freed. Its
+ * number stays taken, and each later call on it returns IWARP_NO_SUCH_STREAM, but that there is nothing to fetch. */
+int32_t iwarp_close(struct iwarp *handle, uint32_t stream);
 
 /* Sets the maximum ULPDU of the frames that a stream emits from then on, 128 to 64,512 octets. It is 1,400 at first. */
 int32_t iwarp_set_mulpdu(struct iwarp *handle, uint32_t stream, uint32_t size);
@@ -339,6 +383,10 @@ int32_t iwarp_take_shared_buffer(struct iwarp *handle, uint32_t pd, struct iwarp
 int32_t iwarp_open_shared(struct iwarp *handle, uint32_t stream, uint32_t pd, uint32_t role, uint32_t options,
                           const uint8_t *private_data, size_t n);
 
+/* As iwarp_open_shared, but the library picks the number, as iwarp_open_next does. */
+int32_t iwarp_open_shared_next(struct iwarp *handle, uint32_t pd, uint32_t role, uint32_t options,
+                               const uint8_t *private_data, size_t n, uint32_t *stream);
+
 /* ---- delivery, work and emission */
 
 /* Sets the sequence number of the peer's first octet. It is 0 if never set. Of several calls before the first delivery
@@ -356,13 +404,24 @@ int32_t iwarp_first_number(struct iwarp *handle, uint32_t stream, uint32_t numbe
  * between: then those of an open stream are dropped only if it has ended. */
 int32_t iwarp_deliver(struct iwarp *handle, uint32_t stream, uint32_t number, const uint8_t *octets, size_t n, uint32_t *kept);
 
+/* Lends the place past the last octet that came, so that a program reads a socket to where the octets are to stand. `*at` is
+ * its address, and `*n` for how many octets it has room: at most `want`, and at most 65,536. Read at most so many to it, and
+ * call iwarp_came before any other call on the handle. IWARP_WINDOW_FULL: call iwarp_work_on until it reports IWARP_IDLE,
+ * which makes room. A stream that has ended lends a place as well, of at most 4,096 octets; what comes is dropped. */
+int32_t iwarp_room(struct iwarp *handle, uint32_t stream, size_t want, uint8_t **at, size_t *n);
+
+/* Takes the first `n` octets of the place that iwarp_room lent last at this stream, as iwarp_deliver does those past the last
+ * octet that came. None of them is dropped, unless the stream has ended. No place is lent then. IWARP_NOT_LENT: `n` is 0, or
+ * more than were lent. */
+int32_t iwarp_came(struct iwarp *handle, uint32_t stream, size_t n);
+
 /* What a step of work did. */
 enum {
     IWARP_IDLE = 0, /* nothing: there is nothing to do until more octets come or more is emitted */
     IWARP_DONE = 1, /* the oldest posted message is done: `message`, `token` */
     IWARP_FLUSHED = 2, /* the stream has ended: the oldest posted message is given up: `message`, `token` */
     IWARP_FLUSHED_RECV = 3, /* the stream has ended: its oldest receive buffer, of `len` octets, can be fetched */
-    IWARP_ASKED = 4, /* the peer's MPA Request came: accept or reject it */
+    IWARP_ASKED = 4, /* the peer's MPA Request came: accept or reject it; iwarp_told tells what it asks for */
     IWARP_OPENED = 5, /* the peer accepted: `flags`, IWARP_SENDS_MARKERS and so on; `len` Reads may be outstanding */
     IWARP_CLOSED_BY_PEER = 6, /* the peer's start-up frame has ended the stream: `code`, IWARP_BAD_KEY and so on */
     IWARP_PLACED = 7, /* `len` octets were placed in region `stag` at `to`, by `right`: IWARP_WRITE or IWARP_SINK */
@@ -452,6 +511,10 @@ int32_t iwarp_emit(struct iwarp *handle, uint32_t stream, uint8_t *out, size_t r
  * address then, also if the call returns IWARP_NO_MEMORY. */
 int32_t iwarp_emit_onto(struct iwarp *handle, uint32_t stream, struct iwarp_buffer *buffer, struct iwarp_emission *emission);
 
+/* Tells whether iwarp_emit has anything to report: `*wants` is 0 if it would report IWARP_NOTHING, else 1. A program waits for
+ * its socket to be writable if it is 1, or if some of what was emitted is not yet written. */
+int32_t iwarp_wants_write(struct iwarp *handle, uint32_t stream, uint32_t *wants);
+
 /* How far a stream is, in octets. */
 struct iwarp_progress {
     uint64_t sent; /* emitted, the start-up frame among them */
@@ -460,7 +523,8 @@ struct iwarp_progress {
     uint64_t reserved[4];
 };
 
-/* Tells how far a stream is. Call iwarp_emit after iwarp_work all the same: `due` is 0 too if it is to report IWARP_DENIED. */
+/* Tells how far a stream is. Whether to call iwarp_emit is told by iwarp_wants_write: `due` is 0 too if IWARP_DENIED is to be
+ * reported. */
 int32_t iwarp_progress(struct iwarp *handle, uint32_t stream, struct iwarp_progress *progress);
 
 /* ---- faults: why a stream ended, as the numbers of a Terminate */

@@ -6,7 +6,10 @@
 #![tactic(auto)]
 
 mod buffers;
+mod lending;
+mod limiting;
 mod octets;
+mod openings;
 mod pools;
 mod posting;
 mod receiving;
@@ -14,11 +17,11 @@ mod regions;
 mod streams;
 mod texts;
 
-ghost use Rattle.std.specs.Prelude.{◌≡◌, ◌≢◌, ◌⊎◌, pos, None, IfSome};
+ghost use Rattle.std.specs.Prelude.{◌≡◌, ◌≢◌, ◌⊎◌, pos, None, IfSome, IfNone};
 ghost use Rattle.std.specs.Option.{option_map};
 ghost use Rattle.iw_c.specs.declared.TheConstants.{VERSION};
 ghost use Rattle.iw_endpoint.specs.Endpoint.{fresh, added, domain_refusal};
-ghost use Rattle.iw_handle.specs.Refusals.{code_of, domain_reason};
+ghost use Rattle.iw_handle.specs.Refusals.{refusal_code, domain_reason};
 ghost use Rattle.iw_handle.specs.State.{open_with, refusal_in, changed};
 ghost use Rattle.iw_handle.specs.Words.{domain_number};
 
@@ -27,10 +30,13 @@ pub use buffers::{
     iwarp_deregister_buffer, iwarp_emit_onto, iwarp_register_buffer,
 };
 use iw_handle::{Handle, code, domain_number};
+pub use lending::{iwarp_came, iwarp_room};
+pub use limiting::{iwarp_register_buffer_for, iwarp_register_for};
 pub use octets::{
-    iwarp_deliver, iwarp_emit, iwarp_fetch, iwarp_first_number, iwarp_progress, iwarp_work,
-    iwarp_work_on,
+    iwarp_deliver, iwarp_emit, iwarp_fetch, iwarp_first_number, iwarp_progress, iwarp_wants_write,
+    iwarp_work, iwarp_work_on,
 };
+pub use openings::{iwarp_close, iwarp_open_next, iwarp_open_shared_next};
 pub use pools::{iwarp_open_shared, iwarp_post_shared, iwarp_share};
 pub use posting::{iwarp_post_read, iwarp_post_recv, iwarp_post_send, iwarp_post_write};
 pub use receiving::{
@@ -43,7 +49,7 @@ pub use regions::{
 use std::alloc::Global;
 pub use streams::{
     iwarp_accept, iwarp_break, iwarp_open, iwarp_private, iwarp_reject, iwarp_set_mulpdu,
-    iwarp_told,
+    iwarp_state, iwarp_told,
 };
 pub use texts::{iwarp_fault_text_at, iwarp_text_at};
 
@@ -80,8 +86,12 @@ pub extern "C" fn iwarp_free(alloc: Global, handle: &mut Handle)
 /// Adds a protection domain with no region and no stream.
 #[unsafe(no_mangle)]
 pub extern "C" fn iwarp_add_domain(alloc: Global, handle: &mut Handle, pd: u32) -> i32
-    ensures code { result ≡ pos
-        (code_of (refusal_in handle.old.state (λ e. option_map domain_reason (domain_refusal e (domain_number pd))))) }
+    ensures refused { IfSome
+        (refusal_in handle.old.state (λ e. option_map domain_reason (domain_refusal e (domain_number pd))))
+        (λ r. result ≡ pos (refusal_code r)) }
+    ensures memory { IfNone
+        (refusal_in handle.old.state (λ e. option_map domain_reason (domain_refusal e (domain_number pd))))
+        ((result ≡ pos 0) ⊎ (result ≡ pos 3)) }
     ensures ok { result ≡ pos 0 → handle.new.state ≡ changed handle.old.state (λ e. added e (domain_number pd)) }
     ensures err { result ≢ pos 0 → handle.new.state ≡ handle.old.state }
 {

@@ -2,11 +2,11 @@
 ghost use Rattle.std.specs.Prelude.{◌≡◌, ◌≢◌, ◌⊎◌, pos, None, Some, length, IfSome, IfNone, IsSomeAnd};
 ghost use Rattle.std.specs.Option.{option_map};
 ghost use Rattle.iw_endpoint.specs.Endpoint.{with_first, delivery_at, after_deliver, emission_at, after_emit};
-ghost use Rattle.iw_handle.specs.Events.{kept_number, emitted_of, IsFrame};
+ghost use Rattle.iw_handle.specs.Events.{flag, kept_number, emitted_of, IsFrame};
 ghost use Rattle.iw_handle.specs.Refusals.{code_of, refusal_code};
 ghost use Rattle.iw_handle.specs.State.{refusal_in, changed, told_in, shown_in, stream_refusal};
 ghost use Rattle.iw_handle.specs.State.{copy_refusal, filled, length_told};
-ghost use Rattle.iw_handle.specs.Streams.{refusal_to_work, refusal_to_emit, refusal_to_go_on, due_shown, progress_at};
+ghost use Rattle.iw_handle.specs.Streams.{refusal_to_work, refusal_to_emit, refusal_to_go_on, due_shown, wants_write, progress_at};
 ghost use Rattle.iw_handle.specs.Steps.{TellsOn};
 ghost use Rattle.iw_handle.specs.declared.working.TheConstants.{QUIET_STEPS};
 ghost use Rattle.iw_handle.specs.Streams.{first_refusal, BringsAt, TriesAt, worked, event_in, handed_in, fetched};
@@ -152,6 +152,28 @@ pub extern "C" fn iwarp_emit(
     let done = handle.emit(alloc, number, out, len);
     if let Ok(told) = done {
         *emitted = told;
+    }
+    code(done.err())
+}
+
+/// Tells whether the next call of `iwarp_emit` has anything to report (1 or 0).
+#[unsafe(no_mangle)]
+pub extern "C" fn iwarp_wants_write(
+    alloc: Global,
+    handle: &mut Handle,
+    number: u32,
+    wants: &mut u32,
+) -> i32
+    ensures code { result ≡ pos
+        (code_of (refusal_in handle.old.state (λ e. stream_refusal e number))) }
+    ensures wants { result ≡ pos 0 → Some wants.new ≡ told_in handle.old.state
+        (λ e. flag (wants_write e number) 1) }
+    ensures kept { result ≢ pos 0 → wants.new ≡ wants.old }
+    ensures same { handle.new.state ≡ handle.old.state }
+{
+    let done = handle.wants_write(alloc, number);
+    if let Ok(due) = done {
+        *wants = if due { 1 } else { 0 };
     }
     code(done.err())
 }

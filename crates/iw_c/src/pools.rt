@@ -1,6 +1,7 @@
 // Pools of receive buffers that streams of a domain share.
 ghost use Rattle.std.specs.Prelude.{◌≡◌, ◌≢◌, ◌⊎◌, pos, IfSome, IfNone};
 ghost use Rattle.iw_endpoint.specs.Endpoint.{shared, pooled, opened_shared};
+ghost use Rattle.iw_handle.specs.Openings.{opened_in};
 ghost use Rattle.iw_handle.specs.Pools.{refusal_to_share, refusal_to_pool, refusal_to_open_shared};
 ghost use Rattle.iw_handle.specs.Refusals.{refusal_code};
 ghost use Rattle.iw_handle.specs.State.{refusal_in, changed, length_refusal};
@@ -58,7 +59,7 @@ pub extern "C" fn iwarp_open_shared(
         (refusal_in handle.old.state
         (λ e. refusal_to_open_shared e number (domain_number pd) role options private.now))
         ((result ≡ pos 0) ⊎ (result ≡ pos 3)) }
-    ensures ok { result ≡ pos 0 → handle.new.state ≡ changed handle.old.state (λ e.
+    ensures ok { result ≡ pos 0 → handle.new.state ≡ opened_in handle.old.state number (λ e.
         opened_shared e number (domain_number pd) (role_in role) (config_of options private.now)) }
     ensures err { result ≢ pos 0 → handle.new.state ≡ handle.old.state }
 {

@@ -1,7 +1,8 @@
 // Calls that open a stream, answer its Request and end it.
 ghost use Rattle.std.specs.Prelude.{◌≡◌, ◌≢◌, ◌⊎◌, pos, Some, length, IfSome, IfNone};
-ghost use Rattle.iw_endpoint.specs.Endpoint.{opened, accepted, rejected, agreement, broken, with_mulpdu, told_at};
-ghost use Rattle.iw_handle.specs.Events.{agreed_flags, peer_told};
+ghost use Rattle.iw_endpoint.specs.Endpoint.{opened, accepted, rejected, agreement, broken, with_mulpdu, told_at, options_at, standing_at};
+ghost use Rattle.iw_handle.specs.Events.{agreed_flags, peer_told, state_number};
+ghost use Rattle.iw_handle.specs.Openings.{opened_in};
 ghost use Rattle.iw_handle.specs.Refusals.{code_of, refusal_code};
 ghost use Rattle.iw_handle.specs.State.{refusal_in, changed, told_in, shown_in, stream_refusal};
 ghost use Rattle.iw_handle.specs.State.{copy_refusal, filled, length_told};
@@ -9,7 +10,7 @@ ghost use Rattle.iw_handle.specs.Streams.{refusal_to_open, refusal_to_answer, si
 ghost use Rattle.iw_handle.specs.Words.{domain_number, role_in, config_of, private_of};
 ghost use Rattle.iw_handle.specs.declared.refusal.Refusal.TheVariants.{NoSuchStream};
 
-use iw_handle::{Handle, Told, agreed_flags, code, domain_number, peer_told};
+use iw_handle::{Handle, Told, agreed_flags, code, domain_number, state_number};
 use std::alloc::Global;
 
 /// Opens a stream in a domain under a number.
@@ -29,7 +30,7 @@ pub extern "C" fn iwarp_open(
     ensures memory { IfNone (refusal_in handle.old.state
         (λ e. refusal_to_open e number (domain_number pd) role options private.now))
         ((result ≡ pos 0) ⊎ (result ≡ pos 3)) }
-    ensures ok { result ≡ pos 0 → handle.new.state ≡ changed handle.old.state
+    ensures ok { result ≡ pos 0 → handle.new.state ≡ opened_in handle.old.state number
         (λ e. opened e number (domain_number pd) (role_in role) (config_of options private.now)) }
     ensures err { result ≢ pos 0 → handle.new.state ≡ handle.old.state }
 {
@@ -104,7 +105,7 @@ pub extern "C" fn iwarp_private(
     code(handle.private(alloc, number, out, len).err())
 }
 
-/// What the peer told in an enhanced start-up frame.
+/// What the peer told in its start-up frame.
 #[unsafe(no_mangle)]
 pub extern "C" fn iwarp_told(
     alloc: Global,
@@ -115,13 +116,35 @@ pub extern "C" fn iwarp_told(
     ensures code { result ≡ pos
         (code_of (refusal_in handle.old.state (λ e. stream_refusal e number))) }
     ensures told { result ≡ pos 0 → Some told.new ≡ told_in handle.old.state
-        (λ e. peer_told (told_at e number)) }
+        (λ e. peer_told (options_at e number) (told_at e number)) }
     ensures kept { result ≢ pos 0 → told.new ≡ told.old }
     ensures same { handle.new.state ≡ handle.old.state }
 {
     let done = handle.told(alloc, number);
-    if let Ok(word) = done {
-        *told = peer_told(word);
+    if let Ok(said) = done {
+        *told = said;
+    }
+    code(done.err())
+}
+
+/// Tells whether a stream is starting (0), is open (1) or has ended (2).
+#[unsafe(no_mangle)]
+pub extern "C" fn iwarp_state(
+    alloc: Global,
+    handle: &mut Handle,
+    number: u32,
+    state: &mut u32,
+) -> i32
+    ensures code { result ≡ pos
+        (code_of (refusal_in handle.old.state (λ e. stream_refusal e number))) }
+    ensures state { result ≡ pos 0 → Some state.new ≡ told_in handle.old.state
+        (λ e. state_number (standing_at e number)) }
+    ensures kept { result ≢ pos 0 → state.new ≡ state.old }
+    ensures same { handle.new.state ≡ handle.old.state }
+{
+    let done = handle.standing(alloc, number);
+    if let Ok(standing) = done {
+        *state = state_number(standing);
     }
     code(done.err())
 }

@@ -73,6 +73,14 @@ pub const BAD_BITS: u32 = 34;
 
 pub const NO_READS: u32 = 35;
 
+pub const NOT_AT_REST: u32 = 36;
+
+pub const NUMBERS_SPENT: u32 = 37;
+
+pub const WINDOW_FULL: u32 = 38;
+
+pub const NOT_LENT: u32 = 39;
+
 // What a region may be used for.
 pub const WRITE: u32 = 1;
 
@@ -108,6 +116,13 @@ pub const USES_CRC: u32 = 4;
 pub const RTR_WRITE: u32 = 8;
 
 pub const RTR_READ: u32 = 16;
+
+// How far a stream is in its life.
+pub const STATE_STARTING: u32 = 0;
+
+pub const STATE_OPEN: u32 = 1;
+
+pub const STATE_ENDED: u32 = 2;
 
 // How a Send is posted, and how one was received.
 pub const SOLICITED: u32 = 1;

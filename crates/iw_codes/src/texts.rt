@@ -45,6 +45,11 @@ pub fn text_of(code: u32) -> &'static [u8]
         numbers::BUFFER_TOO_LONG => b"a receive buffer has at most 16,777,216 octets\0",
         numbers::BAD_BITS => b"a bit is set that has no meaning\0",
         numbers::NO_READS => b"the peer takes no Reads\0",
+        numbers::NOT_AT_REST =>
+            b"the stream is open, or has something left to hand back or to emit\0",
+        numbers::NUMBERS_SPENT => b"all numbers of streams were given\0",
+        numbers::WINDOW_FULL => b"the window has no room for more octets\0",
+        numbers::NOT_LENT => b"no place was lent for so many octets\0",
         _ => b"no code has this number\0",
     }
 }

@@ -1,12 +1,13 @@
 -- Reasons one after another: none of the first holds, and the last is a callee's.
-use Rattle.std.proofs.Common.{◌≡◌, ◌∙◌, ap, subst, sym, Option, Some, None, Result, Ok, Err}
-use Rattle.std.specs.Prelude.{IfSome, IfNone, IfErr}
+use Rattle.std.proofs.Common.{◌≡◌, ◌∙◌, ap, subst, sym, Option, Some, None, Result, Ok, Err, refl, ◌⊎◌, inl, inr}
+use Rattle.std.specs.Prelude.{IfSome, IfNone, IfErr, IsErr}
 use Rattle.std.specs.Option.{option_map}
 use Rattle.std.specs.Result.{result_err}
 use Rattle.std.proofs.lemmas.Option.{same_Some}
 use Rattle.iw_endpoint.specs.Endpoint.{EndpointState}
 use Rattle.iw_handle.specs.declared.held.Held.{Held}
 use Rattle.iw_handle.specs.declared.refusal.Refusal.{Refusal}
+use Rattle.iw_handle.specs.declared.refusal.Refusal.TheVariants.{NoMemory}
 use Rattle.iw_handle.specs.State.{State, first_of, refusal_in}
 
 pub chain_refused : (P : Refusal → Type 0) (a b c : Option Refusal) → a ≡ None → b ≡ None → IfSome c P → IfSome (first_of a (first_of b c)) P
@@ -32,3 +33,20 @@ err_refused A (Some z) y is = ap Err is
 pub refused_in : (P : Refusal → Type 0) (refusal : EndpointState → Option Refusal) (held : Held) (state : State) →
     Some held ≡ state → IfSome (refusal held.endpoint) P → IfSome (refusal_in state refusal) P
 refused_in P refusal held state s = subst (λ o. IfSome o P) (λ i. refusal_in (s i) refusal)
+
+-- a refusal that is the same as another makes the answer an error
+pub refused_is_err : {A : Type 0} (o p : Option Refusal) (r : Result A Refusal) → o ≡ p → IfSome o (λ x. r ≡ Err x) → IfSome p (λ _. IsErr r)
+refused_is_err o p r same refused = subst (λ q. IfSome q (λ _. IsErr r)) same (go o refused)
+  where
+    go : (q : Option Refusal) → IfSome q (λ x. r ≡ Err x) → IfSome q (λ _. IsErr r)
+    go None is = tt
+    go (Some x) is = subst (λ z. IsErr z) (sym is) refl
+
+-- an error is a refusal that is the same as another, or out of memory
+pub why_err : {A : Type 0} (o p : Option Refusal) (r : Result A Refusal) → o ≡ p → IfSome o (λ x. r ≡ Err x) → IfNone o (IfErr r (λ e. e ≡ NoMemory)) → IfErr r (λ e. (e ≡ NoMemory) ⊎ (p ≡ Some e))
+why_err {A} o p r same refused memory = subst (λ q. IfErr r (λ e. (e ≡ NoMemory) ⊎ (q ≡ Some e))) same (go o r refused memory)
+  where
+    go : (q : Option Refusal) (a : Result A Refusal) → IfSome q (λ x. a ≡ Err x) → IfNone q (IfErr a (λ e. e ≡ NoMemory)) → IfErr a (λ e. (e ≡ NoMemory) ⊎ (q ≡ Some e))
+    go q (Ok x) is none = tt
+    go None (Err e) is none = inl none
+    go (Some x) (Err e) is none = inr (sym (ap result_err is))

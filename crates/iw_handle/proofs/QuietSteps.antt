@@ -11,9 +11,8 @@ use Rattle.iw_stream.specs.declared.answer.Step.TheVariants.{Fault, Idle}
 use Rattle.iw_endpoint.specs.Endpoint.{EndpointState, step_at, after_work}
 use Rattle.iw_handle.specs.declared.event.Event.{Event}
 use Rattle.iw_handle.specs.declared.held.Held.{Held}
-use Rattle.iw_lines.specs.declared.line.Line.{Line}
 use Rattle.iw_lines.specs.Line.{oldest_token}
-use Rattle.iw_lines.specs.Lines.{line_at}
+use Rattle.iw_lines.specs.Lines.{LineTable, line_at}
 use Rattle.iw_handle.specs.declared.refusal.Refusal.{Refusal}
 use Rattle.iw_handle.specs.declared.refusal.Refusal.TheVariants.{NoMemory}
 use Rattle.iw_handle.specs.Events.{event_of, event_at}
@@ -21,7 +20,7 @@ use Rattle.iw_handle.specs.Streams.{refusal_to_work, TriesAt, lines_by, lines_af
 use Rattle.iw_handle.specs.Steps.{is_quiet, is_quiet_answer, is_quiet_at, GoesQuietly, after_steps, Works, WorksOn}
 
 -- it hands nothing back, and no message is done
-lines_by-quiet : (step : Step (List ℕ)) (number : ℕ) (lines : List Line) → is_quiet step ≡ true → lines_by step number lines ≡ lines
+lines_by-quiet : (step : Step (List ℕ)) (number : ℕ) (lines : LineTable) → is_quiet step ≡ true → lines_by step number lines ≡ lines
 lines_by-quiet (Placed right stag to len) number lines quiet = refl
 lines_by-quiet (Buffered msn mo len) number lines quiet = refl
 lines_by-quiet (Requested size stag to) number lines quiet = refl
@@ -71,7 +70,7 @@ module _ (now : Held) (number : ℕ) (step : Step (List ℕ))
   goes : is_quiet step ≡ true → GoesQuietly now number
   goes quiet = record { may = none; quiet = ap is_quiet_answer (sym is) ∙ quiet }
 
-  worked : (lines : List Line) → lines ≡ lines_by step number now.lines →
+  worked : (lines : LineTable) → lines ≡ lines_by step number now.lines →
       let after : Held = record { endpoint = e; lines = lines } in after ≡ held_worked now number
   worked lines kept = let same = kept ∙ sym lines_after-step in λ i. record { endpoint = left i; lines = same i }
 
@@ -89,7 +88,7 @@ module _ (now : Held) (number : ℕ) (step : Step (List ℕ))
         ∙ sym (after_steps-more before held number)
 
   -- the step is told, and what it hands back is kept
-  pub works-told : (event : Event) (lines : List Line) → event ≡ event_of (oldest_token (line_at now.lines number)) step →
+  pub works-told : (event : Event) (lines : LineTable) → event ≡ event_of (oldest_token (line_at now.lines number)) step →
       lines ≡ lines_by step number now.lines → Works now number None event (record { endpoint = e; lines = lines })
   works-told event lines told kept = record {
     refused = subst (λ o. IfSome o (λ r. let refusal : Option Refusal = None in refusal ≡ Some r)) (sym none) tt;

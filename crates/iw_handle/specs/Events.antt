@@ -1,5 +1,5 @@
 -- The answers of `work` and `emit`, in numbers.
-use Rattle.std.specs.Prelude.{ℕ, ◌+◌, Bool, if◌then◌else◌, List, length, Option, None, Some, is_some, Result, Ok, Err}
+use Rattle.std.specs.Prelude.{ℕ, ◌+◌, Bool, if◌then◌else◌, List, length, Option, None, Some, is_some, unwrap_or, Result, Ok, Err}
 use Rattle.std.specs.Option.{option_map_or}
 use Rattle.iw_octets.specs.declared.stag.Stag.{Stag}
 use Rattle.iw_octets.specs.declared.fault.Fault as faults
@@ -13,6 +13,7 @@ use Rattle.iw_queues.specs.declared.request.Kind.TheVariants as kinds
 use Rattle.iw_ranges.specs.declared.Delivery.{Delivery}
 use Rattle.iw_ranges.specs.declared.Delivery.TheVariants as deliveries
 use Rattle.iw_startup.specs.declared.config.Agreed.{Agreed}
+use Rattle.iw_startup.specs.declared.config.PeerOptions.{PeerOptions}
 use Rattle.iw_startup.specs.declared.enhanced.EnhancedData.{EnhancedData}
 use Rattle.iw_startup.specs.declared.enhanced.Rtr.{Rtr}
 use Rattle.iw_startup.specs.declared.enhanced.Rtr.TheVariants as rtrs
@@ -20,6 +21,8 @@ use Rattle.iw_startup.specs.declared.progress.StartupFault.{StartupFault}
 use Rattle.iw_startup.specs.declared.progress.StartupFault.TheVariants.{BadKey, BadRev, BadLength, Rejected}
 use Rattle.iw_stream.specs.declared.answer.Emission as emission
 use Rattle.iw_stream.specs.declared.answer.Emission.TheVariants as emissions
+use Rattle.iw_stream.specs.declared.answer.Standing.{Standing}
+use Rattle.iw_stream.specs.declared.answer.Standing.TheVariants as standings
 use Rattle.iw_stream.specs.declared.answer.Step.{Step}
 use Rattle.iw_stream.specs.declared.answer.Step.TheVariants.{Done, Flushed, FlushedRecv, Asked, Opened, Closed, Placed}
 use Rattle.iw_stream.specs.declared.answer.Step.TheVariants.{Buffered, Requested, Tried, Passed, Received, Terminated}
@@ -175,14 +178,34 @@ rights_number rights =
     flag rights.write numbers.WRITE + flag rights.read numbers.READ + flag rights.sink numbers.SINK + flag rights.invalidate numbers.INVALIDATE
 
 abbrev pub facts_of : Facts → RegionFacts
-facts_of facts =
-    record { base = facts.base; len = facts.len; rights = rights_number facts.rights; valid = flag facts.valid 1 }
+facts_of facts = record {
+  base = facts.base;
+  len = facts.len;
+  rights = rights_number facts.rights;
+  valid = flag facts.valid 1;
+  limited = flag (is_some facts.bound) 1;
+  stream = unwrap_or facts.bound 0;
+}
 
--- what the peer told in an enhanced start-up frame
-abbrev pub peer_told : Option EnhancedData → Told
-peer_told None =
-    record { has_word = 0; ird = 0; ord = 0; peer_to_peer = 0; rtr_send = 0; rtr_write = 0; rtr_read = 0 }
-peer_told (Some word) = record {
+-- a start-up frame that was not read told nothing
+abbrev pub nothing_told : Told
+nothing_told = record {
+  revision = 0;
+  markers = 0;
+  crc = 0;
+  has_word = 0;
+  ird = 0;
+  ord = 0;
+  peer_to_peer = 0;
+  rtr_send = 0;
+  rtr_write = 0;
+  rtr_read = 0;
+}
+
+-- by the word of IRD and ORD, if it has one
+abbrev pub word_told : Option EnhancedData → Told
+word_told None = nothing_told
+word_told (Some word) = record nothing_told {
   has_word = 1;
   ird = word.ird;
   ord = word.ord;
@@ -191,3 +214,15 @@ peer_told (Some word) = record {
   rtr_write = flag word.rtr_write 1;
   rtr_read = flag word.rtr_read 1;
 }
+
+-- what the peer told in its start-up frame: what it asks for, and the word
+abbrev pub peer_told : Option PeerOptions → Option EnhancedData → Told
+peer_told None word = word_told word
+peer_told (Some options) word =
+    record (word_told word) { revision = options.revision; markers = flag options.markers 1; crc = flag options.crc 1 }
+
+-- starting, open or ended
+abbrev pub state_number : Standing → ℕ
+state_number standings.Starting = numbers.STATE_STARTING
+state_number standings.Open = numbers.STATE_OPEN
+state_number standings.Ended = numbers.STATE_ENDED

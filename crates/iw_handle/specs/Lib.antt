@@ -5,5 +5,8 @@ pub mod Words
 pub mod Regions
 pub mod Streams
 pub mod Pools
+pub mod Openings
 pub mod Events
 pub mod Steps
+pub mod Lending
+pub mod Limiting

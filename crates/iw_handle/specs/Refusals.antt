@@ -30,8 +30,14 @@ use Rattle.iw_endpoint.specs.declared.refusal.TakeRefusal.{TakeRefusal}
 use Rattle.iw_endpoint.specs.declared.refusal.TakeRefusal.TheVariants as taking
 use Rattle.iw_endpoint.specs.declared.refusal.OpenSharedRefusal.{OpenSharedRefusal}
 use Rattle.iw_endpoint.specs.declared.refusal.OpenSharedRefusal.TheVariants as shared_opening
+use Rattle.iw_endpoint.specs.declared.refusal.OpenNextRefusal.{OpenNextRefusal}
+use Rattle.iw_endpoint.specs.declared.refusal.OpenNextRefusal.TheVariants as next_opening
+use Rattle.iw_endpoint.specs.declared.refusal.NotAtRest.{NotAtRest}
+use Rattle.iw_endpoint.specs.declared.refusal.LimitRefusal.{LimitRefusal}
+use Rattle.iw_endpoint.specs.declared.refusal.LimitRefusal.TheVariants as limit
 use Rattle.iw_codes.specs.declared.numbers.TheConstants as numbers
 use Rattle.iw_handle.specs.declared.refusal.Refusal.{Refusal}
+use Rattle.iw_handle.specs.declared.refusal.Refusal.TheVariants as refusals
 use Rattle.iw_handle.specs.declared.refusal.Refusal.TheVariants.{Closed, AlreadyOpen, NoMemory, NoRoom, NoSuchStream}
 use Rattle.iw_handle.specs.declared.refusal.Refusal.TheVariants.{NoRegion, Outside, BadDomain, DomainTaken, NoDomain}
 use Rattle.iw_handle.specs.declared.refusal.Refusal.TheVariants.{DomainFull, RegionTooLong, BaseWrap, NumberTaken}
@@ -54,6 +60,11 @@ register_reason register.DomainFull = DomainFull
 register_reason register.TooLong = RegionTooLong
 register_reason register.BaseWrap = BaseWrap
 register_reason register.NoMemory = NoMemory
+
+abbrev pub limit_reason : CallRefusal LimitRefusal → Refusal
+limit_reason call.NoSuchStream = NoSuchStream
+limit_reason (call.Refused limit.Ended) = Ended
+limit_reason (call.Refused (limit.Refused refusal)) = register_reason refusal
 
 abbrev pub store_reason : StoreRefusal → Refusal
 store_reason store.NoRegion = NoRegion
@@ -94,6 +105,10 @@ abbrev pub size_reason : CallRefusal SizeRefusal → Refusal
 size_reason call.NoSuchStream = NoSuchStream
 size_reason (call.Refused size.BadSize) = BadSize
 
+abbrev pub close_reason : CallRefusal NotAtRest → Refusal
+close_reason call.NoSuchStream = NoSuchStream
+close_reason (call.Refused rest) = refusals.NotAtRest
+
 abbrev pub share_reason : ShareRefusal → Refusal
 share_reason share.NoDomain = NoDomain
 share_reason share.AlreadyShared = AlreadyShared
@@ -116,6 +131,13 @@ open_shared_reason shared_opening.NoDomain = NoDomain
 open_shared_reason shared_opening.NotShared = NotShared
 open_shared_reason shared_opening.PrivateTooLong = PrivateTooLong
 open_shared_reason shared_opening.NoMemory = NoMemory
+
+abbrev pub next_reason : OpenNextRefusal → Refusal
+next_reason next_opening.NoDomain = NoDomain
+next_reason next_opening.NotShared = NotShared
+next_reason next_opening.NumbersSpent = refusals.NumbersSpent
+next_reason next_opening.PrivateTooLong = PrivateTooLong
+next_reason next_opening.NoMemory = NoMemory
 
 -- ---- of a buffer
 
@@ -162,6 +184,10 @@ refusal_code AlreadyMade = numbers.BUFFER_EXISTS
 refusal_code BufferTooLong = numbers.BUFFER_TOO_LONG
 refusal_code BadBits = numbers.BAD_BITS
 refusal_code NoReads = numbers.NO_READS
+refusal_code refusals.NumbersSpent = numbers.NUMBERS_SPENT
+refusal_code refusals.NotAtRest = numbers.NOT_AT_REST
+refusal_code refusals.WindowFull = numbers.WINDOW_FULL
+refusal_code refusals.NotLent = numbers.NOT_LENT
 
 -- 0 if the call was not refused
 abbrev pub code_of : Option Refusal → ℕ

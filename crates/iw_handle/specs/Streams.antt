@@ -1,5 +1,5 @@
 -- What calls on a stream answer and change.
-use Rattle.std.specs.Prelude.{◌≡◌, ℕ, ◌-◌, ◌^◌, nat_lt, Bool, false, if◌then◌else◌, List, length, replicate}
+use Rattle.std.specs.Prelude.{◌≡◌, ℕ, ◌-◌, ◌^◌, ◌==◌, nat_lt, Bool, false, not, if◌then◌else◌, List, length, replicate}
 use Rattle.std.specs.Prelude.{Option, None, Some, Result, Ok, Err}
 use Rattle.std.specs.Option.{option_map}
 use Rattle.iw_octets.specs.declared.message.Message.TheVariants as messages
@@ -14,21 +14,20 @@ use Rattle.iw_stream.specs.declared.answer.Step.{Step}
 use Rattle.iw_stream.specs.declared.answer.Step.TheVariants.{Done, Flushed, FlushedRecv, Asked, Opened, Closed, Placed}
 use Rattle.iw_stream.specs.declared.answer.Step.TheVariants.{Buffered, Requested, Tried, Passed, Received, Terminated}
 use Rattle.iw_stream.specs.declared.answer.Step.TheVariants.{Fault, Idle}
-use Rattle.iw_lines.specs.declared.line.Line.{Line}
 use Rattle.iw_lines.specs.Handed.{nothing_handed, whole, told_of}
 use Rattle.iw_lines.specs.Line.{with_handed, with_token, oldest_token, without_oldest}
-use Rattle.iw_lines.specs.Lines.{line_at, with_line}
+use Rattle.iw_lines.specs.Lines.{LineTable, line_at, with_line}
 use Rattle.iw_endpoint.specs.declared.refusal.NoSuchStream.{NoSuchStream}
 use Rattle.iw_endpoint.specs.Endpoint as endpoint
 use Rattle.iw_endpoint.specs.Endpoint.{EndpointState, has_stream, stream_at, private_at, sent_at, point_at}
-use Rattle.iw_endpoint.specs.Endpoint.{step_at, after_work, emitted_at, pool_of, lent_to}
+use Rattle.iw_endpoint.specs.Endpoint.{step_at, after_work, emission_at, emitted_at, pool_of, lent_to}
 use Rattle.iw_codes.specs.declared.numbers.TheConstants as numbers
 use Rattle.iw_handle.specs.declared.event.Event.{Event}
 use Rattle.iw_handle.specs.declared.event.Progress.{Progress}
 use Rattle.iw_handle.specs.declared.held.Held.{Held}
 use Rattle.iw_handle.specs.declared.refusal.Refusal.{Refusal}
 use Rattle.iw_handle.specs.declared.refusal.Refusal.TheVariants as refusals
-use Rattle.iw_handle.specs.Events.{event_at}
+use Rattle.iw_handle.specs.Events.{event_at, emitted_of}
 use Rattle.iw_handle.specs.Refusals.{open_reason, answer_reason, post_reason, recv_reason, first_reason, size_reason}
 use Rattle.iw_handle.specs.State.{State, first_of, stream_refusal, room_refusal, length_refusal}
 use Rattle.iw_handle.specs.Words.{role_refusal, role_in, config_of, private_refusal, config_refusal, bits_refusal, has_bit, invalidated_by}
@@ -90,7 +89,7 @@ private_shown e number = if has_stream e number then Some (private_at e number) 
 
 -- what waits at a stream after a step: the message, or the buffer of an ended stream, that it hands back; and the tokens without
 -- that of the message which is done or given up
-abbrev pub lines_by : Step (List ℕ) → ℕ → List Line → List Line
+abbrev pub lines_by : Step (List ℕ) → ℕ → LineTable → LineTable
 lines_by (Received buffer len solicited invalidate) number lines =
     with_line lines number (with_handed (line_at lines number) (record { buffer = buffer; len = len }))
 lines_by (FlushedRecv buffer) number lines = with_line lines number (with_handed (line_at lines number) (whole buffer))
@@ -108,7 +107,7 @@ lines_by (Terminated fault) number lines = lines
 lines_by (Fault fault) number lines = lines
 lines_by Idle number lines = lines
 
-abbrev pub lines_after : Result (Step (List ℕ)) NoSuchStream → ℕ → List Line → List Line
+abbrev pub lines_after : Result (Step (List ℕ)) NoSuchStream → ℕ → LineTable → LineTable
 lines_after (Ok step) number lines = lines_by step number lines
 lines_after (Err missing) number lines = lines
 
@@ -137,6 +136,10 @@ without_handed held number =
 
 abbrev pub fetched : State → ℕ → State
 fetched state number = option_map (λ held. without_handed held number) state
+
+-- the next call of emit reports something
+abbrev pub wants_write : EndpointState → ℕ → Bool
+wants_write e number = not ((emitted_of (emission_at e number)).kind == numbers.NOTHING)
 
 -- how far a stream is
 abbrev pub progress_at : EndpointState → ℕ → Progress

@@ -3,8 +3,8 @@ ghost use Rattle.std.specs.Prelude.{◌≡◌, None, Some, length, IfSome, IfNon
 ghost use Rattle.std.specs.Result.{result_err};
 ghost use Rattle.iw_endpoint.specs.Endpoint.{emission_at, emitted_at, after_emit};
 ghost use Rattle.iw_handle.specs.Events.{emitted_of, IsFrame};
-ghost use Rattle.iw_handle.specs.State.{refusal_in, changed, told_in, shown_in, filled, length_told};
-ghost use Rattle.iw_handle.specs.Streams.{refusal_to_emit, refusal_to_go_on, due_shown, progress_at};
+ghost use Rattle.iw_handle.specs.State.{refusal_in, changed, told_in, shown_in, stream_refusal, filled, length_told};
+ghost use Rattle.iw_handle.specs.Streams.{refusal_to_emit, refusal_to_go_on, due_shown, wants_write, progress_at};
 
 use crate::event::{Emitted, Progress, emitted_of};
 use crate::handle::Handle;
@@ -85,7 +85,32 @@ fn progress(endpoint: &Endpoint, number: u32) -> Result<Progress, Refusal>
     })
 }
 
+// Whether there is something to emit, or a fault to tell.
+fn wants_write(endpoint: &Endpoint, number: u32) -> Result<bool, Refusal>
+    ensures refused { result_err result ≡ stream_refusal endpoint.now number }
+    ensures wants { IfOk result (λ wants. wants ≡ wants_write endpoint.now number) }
+{
+    match endpoint.has_due(number) {
+        Ok(wants) => Ok(wants),
+        Err(_) => Err(Refusal::NoSuchStream),
+    }
+}
+
 impl Handle {
+    /// Whether the next call of [`Handle::emit`] has anything to report, a frame or a fault, unless memory runs out.
+    pub fn wants_write(&mut self, alloc: Global, number: u32) -> Result<bool, Refusal>
+        ensures refused { result_err result ≡ refusal_in self.old.state (λ e. stream_refusal e number) }
+        ensures wants { IfOk result (λ wants. Some wants ≡ told_in self.old.state (λ e. wants_write e number)) }
+        ensures same { self.new.state ≡ self.old.state }
+    {
+        let Some(held) = self.take(alloc) else {
+            return Err(Refusal::Closed);
+        };
+        let done = wants_write(&held.endpoint, number);
+        self.put(held);
+        done
+    }
+
     /// How far a stream is: how many octets it has emitted, its in-order point, and how many octets the next call of
     /// [`Handle::emit`] gives, 0 also if that would tell a fault.
     pub fn progress(&mut self, alloc: Global, number: u32) -> Result<Progress, Refusal>

@@ -3,13 +3,13 @@ ghost use Rattle.std.specs.Prelude.{◌≡◌, ◌≤◌};
 ghost use Rattle.iw_handle.specs.Events.{kind_number, right_number, startup_number, stag_number};
 ghost use Rattle.iw_handle.specs.Events.{flag, agreed_flags, received_flags, rights_number, kept_number};
 ghost use Rattle.iw_handle.specs.Events.{message_event, fault_event, received_event, event_of};
-ghost use Rattle.iw_handle.specs.Events.{emitted_of, facts_of, rtr_flag, peer_told};
+ghost use Rattle.iw_handle.specs.Events.{emitted_of, facts_of, rtr_flag, word_told, peer_told, state_number};
 ghost use Rattle.iw_handle.specs.Steps.{is_quiet};
 
 use iw_codes::numbers;
 use iw_endpoint::{
-    Agreed, Delivery, Emission, EnhancedData, Facts, Fault, Kind, Octets, Right, Rights, Stag,
-    StartupFault, Step,
+    Agreed, Delivery, Emission, EnhancedData, Facts, Fault, Kind, Octets, PeerOptions, Right,
+    Rights, Stag, Standing, StartupFault, Step,
 };
 use iw_startup::Rtr;
 
@@ -67,13 +67,23 @@ pub struct RegionFacts {
     pub rights: u32,
     /// 1 if peers may use it, else 0.
     pub valid: u32,
+    /// 1 if it is limited to one stream, else 0.
+    pub limited: u32,
+    /// The stream that it is limited to; 0 if it is not limited.
+    pub stream: u32,
 }
 
-/// What the peer told in an enhanced start-up frame (RFC 6581 9). Without one all is 0.
+/// What the peer told in its start-up frame (RFC 5044 7.1.1, RFC 6581 9). Before it was read all is 0, and at a preset stream.
 #[repr(C)]
 #[derive(Clone, Copy)]
 pub struct Told {
-    /// 1 if the frame was read and has the word of IRD and ORD.
+    /// The revision of MPA: 1 or 2.
+    pub revision: u32,
+    /// 1 if this end is to put markers into what it sends.
+    pub markers: u32,
+    /// 1 if CRCs are to be used.
+    pub crc: u32,
+    /// 1 if the frame has the word of IRD and ORD. Without it what follows is 0.
     pub has_word: u32,
     /// How many Reads the peer takes at once.
     pub ird: u32,
@@ -136,6 +146,19 @@ const NOTHING: Emitted = Emitted {
     reserved_1: 0,
     reserved_2: 0,
     reserved_3: 0,
+};
+
+const NOTHING_TOLD: Told = Told {
+    revision: 0,
+    markers: 0,
+    crc: 0,
+    has_word: 0,
+    ird: 0,
+    ord: 0,
+    peer_to_peer: 0,
+    rtr_send: 0,
+    rtr_write: 0,
+    rtr_read: 0,
 };
 
 fn kind_number(kind: Kind) -> u32
@@ -446,6 +469,8 @@ pub fn facts_of(facts: Facts) -> RegionFacts
         len: facts.len as u64,
         rights: rights_number(facts.rights),
         valid: flag(facts.valid, 1),
+        limited: flag(facts.bound.is_some(), 1),
+        stream: facts.bound.unwrap_or(0),
     }
 }
 
@@ -459,11 +484,11 @@ pub fn kept_number(delivery: Delivery) -> u32
     }
 }
 
-/// What the peer told, in numbers.
-pub fn peer_told(told: Option<EnhancedData>) -> Told
-    ensures { result ≡ peer_told told }
+// What the peer told by the word of IRD and ORD, in numbers.
+fn word_told(word: Option<EnhancedData>) -> Told
+    ensures { result ≡ word_told word }
 {
-    match told {
+    match word {
         Some(word) => Told {
             has_word: 1,
             ird: word.ird.into(),
@@ -472,15 +497,35 @@ pub fn peer_told(told: Option<EnhancedData>) -> Told
             rtr_send: flag(word.rtr_send, 1),
             rtr_write: flag(word.rtr_write, 1),
             rtr_read: flag(word.rtr_read, 1),
+            ..NOTHING_TOLD
         },
-        None => Told {
-            has_word: 0,
-            ird: 0,
-            ord: 0,
-            peer_to_peer: 0,
-            rtr_send: 0,
-            rtr_write: 0,
-            rtr_read: 0,
+        None => NOTHING_TOLD,
+    }
+}
+
+/// What the peer told in its start-up frame, in numbers.
+pub fn peer_told(options: Option<PeerOptions>, word: Option<EnhancedData>) -> Told
+    ensures { result ≡ peer_told options word }
+{
+    let told = word_told(word);
+    match options {
+        Some(options) => Told {
+            revision: options.revision.into(),
+            markers: flag(options.markers, 1),
+            crc: flag(options.crc, 1),
+            ..told
         },
+        None => told,
+    }
+}
+
+/// 0 (starting), 1 (open) or 2 (ended).
+pub fn state_number(standing: Standing) -> u32
+    ensures { result ≡ state_number standing }
+{
+    match standing {
+        Standing::Starting => numbers::STATE_STARTING,
+        Standing::Open => numbers::STATE_OPEN,
+        Standing::Ended => numbers::STATE_ENDED,
     }
 }

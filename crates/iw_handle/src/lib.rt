@@ -9,7 +9,10 @@ mod event;
 mod handle;
 mod held;
 mod laws;
+mod lending;
+mod limiting;
 mod opening;
+mod openings;
 mod parts;
 mod pools;
 mod posting;
@@ -22,7 +25,7 @@ mod working;
 
 pub use event::{
     Emitted, Event, NO_EVENT, Progress, RegionFacts, Told, agreed_flags, emitted_of, event_of,
-    facts_of, kept_number, peer_told,
+    facts_of, kept_number, peer_told, state_number,
 };
 pub use handle::Handle;
 pub use held::Held;

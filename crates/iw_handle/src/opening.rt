@@ -1,5 +1,5 @@
 // Calls that open and close a handle, and domains.
-ghost use Rattle.std.specs.Prelude.{◌≡◌, ◌⊎◌, None, Some, IfSome, IfErr, IfOk, OnOk, OnErr};
+ghost use Rattle.std.specs.Prelude.{◌≡◌, ◌⊎◌, None, Some, IfSome, IfNone, IfErr, IfOk, OnOk, OnErr};
 ghost use Rattle.std.specs.Option.{option_map};
 ghost use Rattle.std.specs.Result.{result_err};
 ghost use Rattle.iw_endpoint.specs.Endpoint.{fresh, domain_refusal, added};
@@ -17,8 +17,8 @@ use std::alloc::{AllocError, Global};
 fn fresh(alloc: Global) -> Result<Box<Held>, AllocError>
     ensures { IfOk result (λ held. Some held.value ≡ open_with fresh) }
 {
-    let endpoint = Endpoint::new(alloc)?;
-    let lines = Lines::new(alloc)?;
+    let endpoint = Endpoint::new(alloc);
+    let lines = Lines::new(alloc);
     let held = Box::new(alloc, Held { endpoint, lines })?;
     Ok(held)
 }
@@ -51,10 +51,13 @@ impl Handle {
         drop(self.take(alloc));
     }
 
-    /// Adds a protection domain with no region and no stream. `pd` must be 1 to 255. An `Err` changes nothing.
+    /// Adds a protection domain with no region and no stream. `pd` must be 1 to 255. An `Err` changes nothing; `NoMemory`
+    /// comes only if no other refusal applies.
     pub fn add_domain(&mut self, alloc: Global, pd: u8) -> Result<(), Refusal>
-        ensures refused { result_err result ≡ refusal_in self.old.state
-            (λ e. option_map domain_reason (domain_refusal e pd)) }
+        ensures refused { IfSome (refusal_in self.old.state (λ e. option_map domain_reason (domain_refusal e pd)))
+            (λ r. result ≡ Err r) }
+        ensures memory { IfNone (refusal_in self.old.state (λ e. option_map domain_reason (domain_refusal e pd)))
+            (IfErr result (λ e. e ≡ Refusal.NoMemory)) }
         ensures ok { OnOk result (self.new.state ≡ changed self.old.state (λ e. added e pd)) }
         ensures err { OnErr result (self.new.state ≡ self.old.state) }
     {

@@ -1,6 +1,7 @@
 // Pools of receive buffers that streams of a domain share.
 ghost use Rattle.std.specs.Prelude.{◌≡◌, ◌⊎◌, None, Some, length, IfSome, IfNone, IfOk, IfErr, IsErr, OnOk, OnErr};
 ghost use Rattle.iw_endpoint.specs.Endpoint.{shared, pooled, opened_shared};
+ghost use Rattle.iw_handle.specs.Openings.{held_opened, opened_in};
 ghost use Rattle.iw_handle.specs.Pools.{refusal_to_share, refusal_to_pool, refusal_to_open_shared};
 ghost use Rattle.iw_handle.specs.State.{refusal_in, changed, length_refusal};
 ghost use Rattle.iw_handle.specs.Streams.{zeroes};
@@ -8,6 +9,8 @@ ghost use Rattle.iw_handle.specs.Words.{role_in, config_of};
 
 use crate::copying::check_length;
 use crate::handle::Handle;
+use crate::held::Held;
+use crate::openings::open_shared_lined;
 use crate::posting::zeroes;
 use crate::refusal::{Refusal, open_shared_reason, pool_reason, share_reason};
 use crate::words::{config_of, role_of};
@@ -47,7 +50,8 @@ fn post_shared(endpoint: &mut Endpoint, alloc: Global, pd: u8, n: usize) -> Resu
 
 // Opens a stream that shares the domain's pool. Role and options are numbers.
 fn open_shared(
-    endpoint: &mut Endpoint,
+    held: &mut Held,
+    alloc: Global,
     number: u32,
     pd: u8,
     role: u32,
@@ -55,17 +59,17 @@ fn open_shared(
     private: &[u8],
 ) -> Result<(), Refusal>
     // The first refusal that applies; if none does, only `NoMemory`.
-    ensures refused { IfSome (refusal_to_open_shared endpoint.old number pd role options private.now)
+    ensures refused { IfSome (refusal_to_open_shared held.old.endpoint number pd role options private.now)
         (λ r. result ≡ Err r) }
-    ensures memory { IfNone (refusal_to_open_shared endpoint.old number pd role options private.now)
+    ensures memory { IfNone (refusal_to_open_shared held.old.endpoint number pd role options private.now)
         (IfErr result (λ e. e ≡ Refusal.NoMemory)) }
-    ensures ok { OnOk result
-        (endpoint.new ≡ opened_shared endpoint.old number pd (role_in role) (config_of options private.now)) }
-    ensures err { OnErr result (endpoint.new ≡ endpoint.old) }
+    ensures ok { OnOk result (held.new ≡ held_opened held.old number
+        (λ e. opened_shared e number pd (role_in role) (config_of options private.now))) }
+    ensures err { OnErr result (held.new ≡ held.old) }
 {
     let role = role_of(role)?;
     let config = config_of(role, options, private)?;
-    match endpoint.open_shared(number, pd, role, config) {
+    match open_shared_lined(held, alloc, number, pd, role, config) {
         Ok(()) => Ok(()),
         Err(refusal) => Err(open_shared_reason(refusal)),
     }
@@ -124,14 +128,14 @@ impl Handle {
         ensures memory { IfNone
             (refusal_in self.old.state (λ e. refusal_to_open_shared e number pd role options private.now))
             (IfErr result (λ e. e ≡ Refusal.NoMemory)) }
-        ensures ok { OnOk result (self.new.state ≡ changed self.old.state
+        ensures ok { OnOk result (self.new.state ≡ opened_in self.old.state number
             (λ e. opened_shared e number pd (role_in role) (config_of options private.now))) }
         ensures err { OnErr result (self.new.state ≡ self.old.state) }
     {
         let Some(mut held) = self.take(alloc) else {
             return Err(Refusal::Closed);
         };
-        let done = open_shared(&mut held.endpoint, number, pd, role, options, private);
+        let done = open_shared(&mut held, alloc, number, pd, role, options, private);
         self.put(held);
         done
     }

@@ -2,14 +2,15 @@
 ghost use Rattle.std.specs.Prelude.{◌≡◌, ◌<◌, ◌^◌, ◌↔◌, None, pos};
 ghost use Rattle.iw_handle.specs.Refusals.{domain_reason, register_reason, store_reason, code_of, refusal_code};
 ghost use Rattle.iw_handle.specs.Refusals.{open_reason, answer_reason, post_reason, recv_reason, first_reason, size_reason};
+ghost use Rattle.iw_handle.specs.Refusals.{next_reason, close_reason, limit_reason};
 ghost use Rattle.iw_handle.specs.Refusals.{share_reason, pool_reason, take_reason, open_shared_reason, buffer_reason};
 
 use iw_buffer::BufferRefusal;
 use iw_codes::numbers;
 use iw_endpoint::{
-    AnswerRefusal, CallRefusal, DomainRefusal, FirstRefusal, OpenRefusal, OpenSharedRefusal,
-    PoolRefusal, PostRefusal, RecvRefusal, RegisterRefusal, ShareRefusal, SizeRefusal,
-    StoreRefusal, TakeRefusal,
+    AnswerRefusal, CallRefusal, DomainRefusal, FirstRefusal, LimitRefusal, NotAtRest,
+    OpenNextRefusal, OpenRefusal, OpenSharedRefusal, PoolRefusal, PostRefusal, RecvRefusal,
+    RegisterRefusal, ShareRefusal, SizeRefusal, StoreRefusal, TakeRefusal,
 };
 use thiserror::Error;
 
@@ -121,6 +122,18 @@ pub enum Refusal {
     /// The peer takes no Reads: its IRD is 0.
     #[error("the peer takes no Reads")]
     NoReads,
+    /// All numbers of streams up to 2^32 - 1 were given.
+    #[error("no number is left")]
+    NumbersSpent,
+    /// The stream has not ended, or has something left to hand back or to emit.
+    #[error("the stream is not at rest")]
+    NotAtRest,
+    /// The window has no room before `work` makes some.
+    #[error("the window has no room")]
+    WindowFull,
+    /// No place was lent for so many octets, or they are none.
+    #[error("no place was lent for so many octets")]
+    NotLent,
 }
 
 pub(crate) fn domain_reason(refusal: DomainRefusal) -> Refusal
@@ -142,6 +155,16 @@ pub(crate) fn register_reason(refusal: RegisterRefusal) -> Refusal
         RegisterRefusal::TooLong => Refusal::RegionTooLong,
         RegisterRefusal::BaseWrap => Refusal::BaseWrap,
         RegisterRefusal::NoMemory => Refusal::NoMemory,
+    }
+}
+
+pub(crate) fn limit_reason(refusal: CallRefusal<LimitRefusal>) -> Refusal
+    ensures { result ≡ limit_reason refusal }
+{
+    match refusal {
+        CallRefusal::NoSuchStream => Refusal::NoSuchStream,
+        CallRefusal::Refused(LimitRefusal::Ended) => Refusal::Ended,
+        CallRefusal::Refused(LimitRefusal::Refused(refusal)) => register_reason(refusal),
     }
 }
 
@@ -216,6 +239,27 @@ pub(crate) fn size_reason(refusal: CallRefusal<SizeRefusal>) -> Refusal
     match refusal {
         CallRefusal::NoSuchStream => Refusal::NoSuchStream,
         CallRefusal::Refused(SizeRefusal::BadSize) => Refusal::BadSize,
+    }
+}
+
+pub(crate) fn close_reason(refusal: CallRefusal<NotAtRest>) -> Refusal
+    ensures { result ≡ close_reason refusal }
+{
+    match refusal {
+        CallRefusal::NoSuchStream => Refusal::NoSuchStream,
+        CallRefusal::Refused(NotAtRest) => Refusal::NotAtRest,
+    }
+}
+
+pub(crate) fn next_reason(refusal: OpenNextRefusal) -> Refusal
+    ensures { result ≡ next_reason refusal }
+{
+    match refusal {
+        OpenNextRefusal::NoDomain => Refusal::NoDomain,
+        OpenNextRefusal::NotShared => Refusal::NotShared,
+        OpenNextRefusal::NumbersSpent => Refusal::NumbersSpent,
+        OpenNextRefusal::PrivateTooLong => Refusal::PrivateTooLong,
+        OpenNextRefusal::NoMemory => Refusal::NoMemory,
     }
 }
 
@@ -314,6 +358,10 @@ fn number(refusal: Refusal) -> u32
         Refusal::BufferTooLong => numbers::BUFFER_TOO_LONG,
         Refusal::BadBits => numbers::BAD_BITS,
         Refusal::NoReads => numbers::NO_READS,
+        Refusal::NumbersSpent => numbers::NUMBERS_SPENT,
+        Refusal::NotAtRest => numbers::NOT_AT_REST,
+        Refusal::WindowFull => numbers::WINDOW_FULL,
+        Refusal::NotLent => numbers::NOT_LENT,
     }
 }
 

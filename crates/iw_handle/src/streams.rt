@@ -1,22 +1,28 @@
 // Calls that open a stream, answer its Request and end it.
 ghost use Rattle.std.specs.Prelude.{◌≡◌, None, Some, length, IfSome, IfNone, IfOk, IfErr, OnOk, OnErr};
 ghost use Rattle.std.specs.Result.{result_err};
-ghost use Rattle.iw_endpoint.specs.Endpoint.{opened, accepted, rejected, agreement, broken, with_mulpdu, told_at};
+ghost use Rattle.iw_endpoint.specs.Endpoint.{opened, accepted, rejected, agreement, broken, with_mulpdu, told_at, options_at, standing_at};
+ghost use Rattle.iw_handle.specs.Events.{peer_told};
+ghost use Rattle.iw_handle.specs.Openings.{held_opened, opened_in};
 ghost use Rattle.iw_handle.specs.State.{refusal_in, changed, told_in, shown_in, stream_refusal};
 ghost use Rattle.iw_handle.specs.State.{copy_refusal, filled, length_told};
 ghost use Rattle.iw_handle.specs.Streams.{refusal_to_open, refusal_to_answer, size_refusal, private_shown};
 ghost use Rattle.iw_handle.specs.Words.{role_in, config_of, private_of};
 
 use crate::copying::copy_out;
+use crate::event::{Told, peer_told};
 use crate::handle::Handle;
+use crate::held::Held;
+use crate::openings::open_lined;
 use crate::refusal::{Refusal, answer_reason, open_reason, size_reason};
 use crate::words::{config_of, private_of, role_of};
-use iw_endpoint::{Agreed, Endpoint, EnhancedData};
+use iw_endpoint::{Agreed, Endpoint, Standing};
 use std::alloc::Global;
 
 // Opens a stream. Role and options are numbers.
 fn open_stream(
-    endpoint: &mut Endpoint,
+    held: &mut Held,
+    alloc: Global,
     number: u32,
     pd: u8,
     role: u32,
@@ -24,16 +30,17 @@ fn open_stream(
     private: &[u8],
 ) -> Result<(), Refusal>
     // The first refusal that applies; if none does, only `NoMemory`.
-    ensures refused { IfSome (refusal_to_open endpoint.old number pd role options private.now) (λ r. result ≡ Err r) }
-    ensures memory { IfNone (refusal_to_open endpoint.old number pd role options private.now)
+    ensures refused { IfSome (refusal_to_open held.old.endpoint number pd role options private.now)
+        (λ r. result ≡ Err r) }
+    ensures memory { IfNone (refusal_to_open held.old.endpoint number pd role options private.now)
         (IfErr result (λ e. e ≡ Refusal.NoMemory)) }
-    ensures ok { OnOk result
-        (endpoint.new ≡ opened endpoint.old number pd (role_in role) (config_of options private.now)) }
-    ensures err { OnErr result (endpoint.new ≡ endpoint.old) }
+    ensures ok { OnOk result (held.new ≡ held_opened held.old number
+        (λ e. opened e number pd (role_in role) (config_of options private.now))) }
+    ensures err { OnErr result (held.new ≡ held.old) }
 {
     let role = role_of(role)?;
     let config = config_of(role, options, private)?;
-    match endpoint.open(number, pd, role, config) {
+    match open_lined(held, alloc, number, pd, role, config) {
         Ok(()) => Ok(()),
         Err(refusal) => Err(open_reason(refusal)),
     }
@@ -83,6 +90,31 @@ fn copy_private(
     }
 }
 
+// What the peer told in its start-up frame.
+fn told(endpoint: &Endpoint, number: u32) -> Result<Told, Refusal>
+    ensures refused { result_err result ≡ stream_refusal endpoint.now number }
+    ensures told { IfOk result
+        (λ told. told ≡ peer_told (options_at endpoint.now number) (told_at endpoint.now number)) }
+{
+    let Ok(options) = endpoint.peer_options(number) else {
+        return Err(Refusal::NoSuchStream);
+    };
+    let Ok(word) = endpoint.told(number) else {
+        return Err(Refusal::NoSuchStream);
+    };
+    Ok(peer_told(options, word))
+}
+
+fn standing(endpoint: &Endpoint, number: u32) -> Result<Standing, Refusal>
+    ensures refused { result_err result ≡ stream_refusal endpoint.now number }
+    ensures standing { IfOk result (λ standing. standing ≡ standing_at endpoint.now number) }
+{
+    match endpoint.standing(number) {
+        Ok(standing) => Ok(standing),
+        Err(_) => Err(Refusal::NoSuchStream),
+    }
+}
+
 impl Handle {
     /// Opens a stream in a domain under a number from 0 to 63 ([`Endpoint::open`]). `role` is 0 (preset), 1 (initiator)
     /// or 2 (responder). `options` is a sum of 1 (the peer is to send markers), 2 (CRCs), 4 (revision 2 of MPA) and, of an
@@ -102,14 +134,14 @@ impl Handle {
             (λ r. result ≡ Err r) }
         ensures memory { IfNone (refusal_in self.old.state (λ e. refusal_to_open e number pd role options private.now))
             (IfErr result (λ e. e ≡ Refusal.NoMemory)) }
-        ensures ok { OnOk result (self.new.state ≡ changed self.old.state
+        ensures ok { OnOk result (self.new.state ≡ opened_in self.old.state number
             (λ e. opened e number pd (role_in role) (config_of options private.now))) }
         ensures err { OnErr result (self.new.state ≡ self.old.state) }
     {
         let Some(mut held) = self.take(alloc) else {
             return Err(Refusal::Closed);
         };
-        let done = open_stream(&mut held.endpoint, number, pd, role, options, private);
+        let done = open_stream(&mut held, alloc, number, pd, role, options, private);
         self.put(held);
         done
     }
@@ -173,22 +205,34 @@ impl Handle {
         done
     }
 
-    /// What the peer told in its start-up frame by the word of IRD and ORD, once that was read, if it has one
-    /// ([`Endpoint::told`]).
-    pub fn told(&mut self, alloc: Global, number: u32) -> Result<Option<EnhancedData>, Refusal>
+    /// What the peer told in its start-up frame, once that was read: what it asks for ([`Endpoint::peer_options`]), and the word of
+    /// IRD and ORD, if it has one ([`Endpoint::told`]).
+    pub fn told(&mut self, alloc: Global, number: u32) -> Result<Told, Refusal>
         ensures refused { result_err result ≡ refusal_in self.old.state (λ e. stream_refusal e number) }
-        ensures told { IfOk result (λ told. Some told ≡ told_in self.old.state (λ e. told_at e number)) }
+        ensures told { IfOk result
+            (λ told. Some told ≡ told_in self.old.state (λ e. peer_told (options_at e number) (told_at e number))) }
         ensures same { self.new.state ≡ self.old.state }
     {
         let Some(held) = self.take(alloc) else {
             return Err(Refusal::Closed);
         };
-        let told = held.endpoint.told(number);
+        let done = told(&held.endpoint, number);
         self.put(held);
-        match told {
-            Ok(told) => Ok(told),
-            Err(_) => Err(Refusal::NoSuchStream),
-        }
+        done
+    }
+
+    /// Whether a stream is starting, is open or has ended ([`Endpoint::standing`]).
+    pub fn standing(&mut self, alloc: Global, number: u32) -> Result<Standing, Refusal>
+        ensures refused { result_err result ≡ refusal_in self.old.state (λ e. stream_refusal e number) }
+        ensures standing { IfOk result (λ standing. Some standing ≡ told_in self.old.state (λ e. standing_at e number)) }
+        ensures same { self.new.state ≡ self.old.state }
+    {
+        let Some(held) = self.take(alloc) else {
+            return Err(Refusal::Closed);
+        };
+        let done = standing(&held.endpoint, number);
+        self.put(held);
+        done
     }
 
     /// Reports that a stream's link broke: the stream has ended, and nothing more is emitted. An `Err` changes nothing.

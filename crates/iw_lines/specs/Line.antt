@@ -5,9 +5,9 @@ use Rattle.iw_lines.specs.declared.handed.Handed.{Handed}
 use Rattle.iw_lines.specs.declared.line.Line.{Line}
 use Rattle.iw_lines.specs.Handed.{nothing_handed}
 
--- nothing was handed back, and nothing is posted
+-- nothing was handed back, nothing is posted, and no place is lent
 abbrev pub new_line : Line
-new_line = record { handed = nothing_handed; tokens = record { items = [] } }
+new_line = record { handed = nothing_handed; tokens = record { items = [] }; lent = 0 }
 
 abbrev pub with_handed : Line → Handed → Line
 with_handed line handed = record line { handed = handed }
@@ -28,3 +28,7 @@ oldest_token line = slice_index_or line.tokens.items 0 0
 
 abbrev pub without_oldest : Line → Line
 without_oldest line = with_tokens line (drop 1 line.tokens.items)
+
+-- a place for n octets is lent
+abbrev pub with_lent : Line → ℕ → Line
+with_lent line n = record line { lent = n }

@@ -5,7 +5,9 @@
 mod handed;
 mod line;
 mod lines;
+mod place;
 
 pub use handed::Handed;
 pub use line::{Line, MAX_TOKENS};
 pub use lines::Lines;
+pub use place::Place;

@@ -1,5 +1,5 @@
 ghost use Rattle.std.specs.Prelude.{◌≡◌};
-ghost use Rattle.iw_lines.specs.Line.{new_line, with_handed, with_token, oldest_token, without_oldest};
+ghost use Rattle.iw_lines.specs.Line.{new_line, with_handed, with_token, oldest_token, without_oldest, with_lent};
 ghost use Rattle.iw_lines.specs.Handed.{nothing_handed};
 
 use crate::handed::Handed;
@@ -16,6 +16,8 @@ pub struct Line {
     pub handed: Handed,
     /// The tokens of the messages that are posted and not yet told to be done or flushed, oldest first.
     pub tokens: ArrayVec<u64, MAX_TOKENS>,
+    /// For how many octets a place to read to was lent last, if none of them were counted yet.
+    pub lent: usize,
 }
 
 impl Line {
@@ -25,6 +27,7 @@ impl Line {
         Line {
             handed: Handed::nothing(alloc),
             tokens: ArrayVec::new(),
+            lent: 0,
         }
     }
 
@@ -60,6 +63,13 @@ impl Line {
             Some(token) => *token,
             None => 0,
         }
+    }
+
+    /// A place for `n` octets is lent.
+    pub(crate) fn lend(&mut self, n: usize)
+        ensures { self.new ≡ with_lent self.old n }
+    {
+        self.lent = n;
     }
 
     /// Takes the oldest token out, if there is one.

@@ -1,59 +1,102 @@
-ghost use Rattle.std.specs.Prelude.{◌≡◌, IfOk};
+ghost use Rattle.std.specs.Prelude.{◌≡◌, IfOk, IsSome, OnOk, OnErr};
 
 use crate::handed::Handed;
-use crate::line::Line;
+use crate::place::Place;
 use std::alloc::{AllocError, Global};
+use std::collections::HashMap;
+use std::hash::{BuildHasherDefault, FoldHasher};
 use std::marker::Model;
 
-/// What waits at each stream, by its number: 0 to 63.
+/// What waits at each stream, by its number. A stream's line is made when it is opened, and freed when it is closed.
 #[derive(Drop)]
 pub struct Lines {
-    places: Vec<Line>,
+    places: HashMap<u32, Place, BuildHasherDefault<FoldHasher>, Global>,
 }
 
 impl Model for Lines {
-    ghost use Rattle.std.specs.Prelude.{◌≡◌, List, length};
+    ghost use Rattle.std.specs.Prelude.{List, Option, nat_eq};
+    ghost use Rattle.std.specs.HashMap as hash;
     ghost use Rattle.iw_lines.specs.declared.line.Line.{Line};
+    ghost use Rattle.iw_lines.specs.Lines.{listed};
 
-    ghost Value = { List Line };
+    ghost Value = { List (Option Line) };
 
-    ghost view = { λ lines. lines.places.items };
-
-    ghost invariant = { λ lines. length lines.places.items ≡ 64 };
+    ghost view = { λ lines. listed (hash.get nat_eq lines.places) };
 }
 
 impl Lines {
     ghost use Rattle.iw_lines.specs.Handed.{nothing_handed, told_of};
-    ghost use Rattle.iw_lines.specs.Line.{with_handed, with_token, oldest_token, without_oldest};
-    ghost use Rattle.iw_lines.specs.Lines.{no_lines, line_at, with_line};
+    ghost use Rattle.iw_lines.specs.Line.{with_handed, with_token, oldest_token, without_oldest, with_lent};
+    ghost use Rattle.iw_lines.specs.Lines.{no_lines, opened, closed, place_of, with_place, line_at, with_line};
 
-    /// Nothing waits at any stream. An `Err` means out of memory.
-    pub fn new(alloc: Global) -> Result<Lines, AllocError>
-        ensures { IfOk result (λ lines. lines ≡ no_lines) }
+    /// No stream has a line. It takes no memory.
+    pub fn new(alloc: Global) -> Lines
+        ensures { result ≡ no_lines }
     {
-        let mut places = Vec::with_capacity(alloc, 64)?;
-        for _i in 0..64usize {
-            places.push(Line::new(alloc))?;
+        Lines {
+            places: HashMap::new(alloc),
         }
-        Ok(Lines { places })
     }
 
-    /// Keeps what a stream handed back, to be fetched; what was kept for it before is freed. It does nothing for a number above
-    /// 63.
+    /// Makes a line, at which nothing waits, and hands out the one that the number had. An `Err` means out of memory and
+    /// changes nothing.
+    pub fn open(&mut self, alloc: Global, number: u32) -> Result<Option<Place>, AllocError>
+        ensures before { IfOk result (λ before. before ≡ place_of self.old number) }
+        ensures ok { OnOk result (self.new ≡ opened self.old number) }
+        ensures there { OnOk result (IsSome (place_of self.new number)) }
+        ensures err { OnErr result (self.new ≡ self.old) }
+    {
+        let place = Place::new(alloc)?;
+        match self.places.insert(number, place) {
+            Ok(before) => Ok(before),
+            Err(_) => Err(AllocError),
+        }
+    }
+
+    /// Undoes [`Lines::open`], which returned `before`.
+    pub fn undo_open(&mut self, number: u32, before: Option<Place>)
+        requires { IsSome (place_of self.old number) }
+        ensures { self.new ≡ with_place self.old number before }
+    {
+        match before {
+            Some(place) => self.put_back(number, place),
+            None => self.close(number),
+        }
+    }
+
+    // Replaces the line of a number.
+    fn put_back(&mut self, number: u32, place: Place)
+        requires { IsSome (place_of self.old number) }
+        ensures { self.new ≡ with_place self.old number (Some place) }
+    {
+        // The number has a line, so no memory is needed.
+        let _ = self.places.insert(number, place);
+    }
+
+    /// Frees the line of a number, with what waits there.
+    pub fn close(&mut self, number: u32)
+        ensures { self.new ≡ closed self.old number }
+    {
+        let _ = self.places.remove(&number);
+    }
+
+    /// Keeps what a stream handed back, to be fetched; what was kept for it before is freed. It does nothing for a number
+    /// that has no line.
     pub fn keep(&mut self, number: u32, handed: Handed)
         ensures { self.new ≡ with_line self.old number (with_handed (line_at self.old number) handed) }
     {
-        if let Some(line) = self.places.get_mut(number as usize) {
-            line.keep(handed);
-        }
+        let Some(place) = self.places.get_mut(&number) else {
+            return;
+        };
+        place.keep(handed);
     }
 
     /// The octets that can be fetched at a stream; none if nothing was handed back.
     pub fn told(&self, number: u32) -> &[u8]
         ensures { result.now ≡ told_of (line_at self.now number).handed }
     {
-        match self.places.get(number as usize) {
-            Some(line) => line.handed.told(),
+        match self.places.get(&number) {
+            Some(place) => place.told(),
             None => &[],
         }
     }
@@ -63,27 +106,28 @@ impl Lines {
         ensures handed { result ≡ (line_at self.old number).handed }
         ensures after { self.new ≡ with_line self.old number (with_handed (line_at self.old number) nothing_handed) }
     {
-        match self.places.get_mut(number as usize) {
-            Some(line) => line.fetch(alloc),
-            None => Handed::nothing(alloc),
-        }
+        let Some(place) = self.places.get_mut(&number) else {
+            return Handed::nothing(alloc);
+        };
+        place.fetch(alloc)
     }
 
-    /// Puts a token behind those of a stream, if they are fewer than 256.
+    /// Puts a token behind those of a stream, if they are fewer than 256. It does nothing for a number that has no line.
     pub fn push(&mut self, number: u32, token: u64)
         ensures { self.new ≡ with_line self.old number (with_token (line_at self.old number) token) }
     {
-        if let Some(line) = self.places.get_mut(number as usize) {
-            line.push(token);
-        }
+        let Some(place) = self.places.get_mut(&number) else {
+            return;
+        };
+        place.push(token);
     }
 
     /// The oldest token of a stream; 0 if it has none.
     pub fn oldest(&self, number: u32) -> u64
         ensures { result ≡ oldest_token (line_at self.now number) }
     {
-        match self.places.get(number as usize) {
-            Some(line) => line.oldest(),
+        match self.places.get(&number) {
+            Some(place) => place.oldest(),
             None => 0,
         }
     }
@@ -92,8 +136,29 @@ impl Lines {
     pub fn pop(&mut self, number: u32)
         ensures { self.new ≡ with_line self.old number (without_oldest (line_at self.old number)) }
     {
-        if let Some(line) = self.places.get_mut(number as usize) {
-            line.pop();
+        let Some(place) = self.places.get_mut(&number) else {
+            return;
+        };
+        place.pop();
+    }
+
+    /// Keeps for how many octets a place to read to was lent at a stream; 0 once they were counted.
+    pub fn lend(&mut self, number: u32, n: usize)
+        ensures { self.new ≡ with_line self.old number (with_lent (line_at self.old number) n) }
+    {
+        let Some(place) = self.places.get_mut(&number) else {
+            return;
+        };
+        place.lend(n);
+    }
+
+    /// For how many octets a place was lent last at a stream; 0 if none is.
+    pub fn lent(&self, number: u32) -> usize
+        ensures { result ≡ (line_at self.now number).lent }
+    {
+        match self.places.get(&number) {
+            Some(place) => place.lent(),
+            None => 0,
         }
     }
 }

@@ -15,11 +15,11 @@ returns-in-Err-clause-refused c =
     let config : c.in_ok-config.config ≡ config_of c.args.options c.args.private.now = c.in_ok-config.ensures.config in
     let no_role : role_refusal c.args.role ≡ None = sym c.in_ok-role.ensures.refused in
     let no_config : config_refusal (role_in c.args.role) c.args.options n ≡ None = (λ i. config_refusal (sym role i) c.args.options n) ∙ sym c.in_ok-config.ensures.refused in
-    let o = open_shared_refusal c.args.endpoint.now c.args.number c.args.pd (role_in c.args.role) (config_of c.args.options c.args.private.now) in
-    let refused : IfSome o (λ r. c.open_shared.result ≡ Err r) = subst (λ q. IfSome q (λ r. c.open_shared.result ≡ Err r)) (λ i. open_shared_refusal c.args.endpoint.now c.args.number c.args.pd (role i) (config i)) c.open_shared.ensures.refused in
+    let o = open_shared_refusal c.args.held.now.endpoint c.args.number c.args.pd (role_in c.args.role) (config_of c.args.options c.args.private.now) in
+    let refused : IfSome o (λ r. c.open_shared_lined.result ≡ Err r) = subst (λ q. IfSome q (λ r. c.open_shared_lined.result ≡ Err r)) (λ i. open_shared_refusal c.args.held.now.endpoint c.args.number c.args.pd (role i) (config i)) c.open_shared_lined.ensures.refused in
     chain_refused (λ r. Err c.open_shared_reason.result ≡ Err r) (role_refusal c.args.role) (config_refusal (role_in c.args.role) c.args.options n) (option_map open_shared_reason o) no_role no_config
     (err_refused (Unit {0}) (option_map open_shared_reason o) c.open_shared_reason.result
-    (reason_refused open_shared_reason o c.in-Err.refusal c.open_shared.result c.open_shared_reason.result c.in-Err.is c.open_shared_reason.ensures refused))
+    (reason_refused open_shared_reason o c.in-Err.refusal c.open_shared_lined.result c.open_shared_reason.result c.in-Err.is c.open_shared_reason.ensures refused))
 
 pub returns-in-Err-clause-memory : goal.returns-in-Err-clause-memory
 returns-in-Err-clause-memory c =
@@ -28,7 +28,7 @@ returns-in-Err-clause-memory c =
     let config : c.in_ok-config.config ≡ config_of c.args.options c.args.private.now = c.in_ok-config.ensures.config in
     let no_role : role_refusal c.args.role ≡ None = sym c.in_ok-role.ensures.refused in
     let no_config : config_refusal (role_in c.args.role) c.args.options n ≡ None = (λ i. config_refusal (sym role i) c.args.options n) ∙ sym c.in_ok-config.ensures.refused in
-    let o = open_shared_refusal c.args.endpoint.now c.args.number c.args.pd (role_in c.args.role) (config_of c.args.options c.args.private.now) in
-    let memory : IfNone o (IfErr c.open_shared.result (λ e. e ≡ NoMemory)) = subst (λ q. IfNone q (IfErr c.open_shared.result (λ e. e ≡ NoMemory))) (λ i. open_shared_refusal c.args.endpoint.now c.args.number c.args.pd (role i) (config i)) c.open_shared.ensures.memory in
+    let o = open_shared_refusal c.args.held.now.endpoint c.args.number c.args.pd (role_in c.args.role) (config_of c.args.options c.args.private.now) in
+    let memory : IfNone o (IfErr c.open_shared_lined.result (λ e. e ≡ NoMemory)) = subst (λ q. IfNone q (IfErr c.open_shared_lined.result (λ e. e ≡ NoMemory))) (λ i. open_shared_refusal c.args.held.now.endpoint c.args.number c.args.pd (role i) (config i)) c.open_shared_lined.ensures.memory in
     chain_memory (c.open_shared_reason.result ≡ open_shared_reason NoMemory) (role_refusal c.args.role) (config_refusal (role_in c.args.role) c.args.options n) (option_map open_shared_reason o) no_role no_config
-    (reason_memory open_shared_reason o c.in-Err.refusal NoMemory c.open_shared.result c.open_shared_reason.result c.in-Err.is c.open_shared_reason.ensures memory)
+    (reason_memory open_shared_reason o c.in-Err.refusal NoMemory c.open_shared_lined.result c.open_shared_reason.result c.in-Err.is c.open_shared_reason.ensures memory)

@@ -1,0 +1,14 @@
+use Rattle.std.proofs.Common.{◌≡◌, List, ℕ}
+use Rattle.iw_handle.specs.Streams.{refusal_to_post, send_of}
+use Rattle.iw_handle.proofs.Chains.{refused_is_err, why_err}
+use Rattle.iw_handle.proofs.posting.send_copy.Goals as goal
+
+pub returns-clause-refused : goal.returns-clause-refused
+returns-clause-refused c =
+    let copied : c.in-Ok.octets ≡ c.args.octets.now = c.in-Ok.ensures in
+    refused_is_err _ _ c.post.result (λ i. refusal_to_post c.args.held.now.endpoint c.args.number (send_of (copied i) c.args.solicited c.args.invalidate)) c.post.ensures.refused
+
+pub returns-clause-why : goal.returns-clause-why
+returns-clause-why c =
+    let copied : c.in-Ok.octets ≡ c.args.octets.now = c.in-Ok.ensures in
+    why_err _ _ c.post.result (λ i. refusal_to_post c.args.held.now.endpoint c.args.number (send_of (copied i) c.args.solicited c.args.invalidate)) c.post.ensures.refused c.post.ensures.memory

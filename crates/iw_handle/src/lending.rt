@@ -1,0 +1,128 @@
+// Octets that the program reads to a place that is lent.
+ghost use Rattle.std.specs.Prelude.{◌≡◌, ◌⊎◌, ◌<◌, IfSome, IfNone, IfOk, IfErr, OnOk, OnErr, IsSomeAnd, Some};
+ghost use Rattle.iw_handle.specs.Lending.{lendable_at, IsFull, lent_at, held_lent, lent_in, HasTaken};
+ghost use Rattle.iw_handle.specs.State.{refusal_in, told_in, stream_refusal};
+
+use crate::handle::Handle;
+use crate::held::Held;
+use crate::refusal::Refusal;
+use iw_endpoint::{CallRefusal, Endpoint, PlaceRefusal};
+use std::alloc::Global;
+
+// Lends the place past the last octet that came.
+fn lend_place(
+    endpoint: &mut Endpoint,
+    number: u32,
+    want: usize,
+    at: &mut *mut u8,
+) -> Result<usize, Refusal>
+    ensures refused { IfSome (stream_refusal endpoint.old number) (λ r. result ≡ Err r) }
+    ensures why { IfNone (stream_refusal endpoint.old number)
+        (IfErr result (λ e. (e ≡ Refusal.WindowFull) ⊎ (e ≡ Refusal.NoMemory))) }
+    ensures full { result ≡ Err Refusal.WindowFull → IsFull endpoint.old number }
+    ensures lent { IfOk result (λ n. n ≡ lendable_at endpoint.old number want) }
+    ensures kept { OnErr result (at.new ≡ at.old) }
+    ensures same { endpoint.new ≡ endpoint.old }
+{
+    match endpoint.lend_place(number, want, at) {
+        Ok(n) => Ok(n),
+        Err(CallRefusal::NoSuchStream) => Err(Refusal::NoSuchStream),
+        Err(CallRefusal::Refused(PlaceRefusal::Full)) => Err(Refusal::WindowFull),
+        Err(CallRefusal::Refused(PlaceRefusal::NoMemory)) => Err(Refusal::NoMemory),
+    }
+}
+
+fn room(held: &mut Held, number: u32, want: usize, at: &mut *mut u8) -> Result<usize, Refusal>
+    ensures refused { IfSome (stream_refusal held.old.endpoint number) (λ r. result ≡ Err r) }
+    ensures why { IfNone (stream_refusal held.old.endpoint number)
+        (IfErr result (λ e. (e ≡ Refusal.WindowFull) ⊎ (e ≡ Refusal.NoMemory))) }
+    ensures full { result ≡ Err Refusal.WindowFull → IsFull held.old.endpoint number }
+    ensures lent { IfOk result (λ n. n ≡ lendable_at held.old.endpoint number want) }
+    ensures kept { OnErr result (at.new ≡ at.old) }
+    ensures ok { IfOk result (λ n. held.new ≡ held_lent held.old number n) }
+    ensures err { OnErr result (held.new ≡ held.old) }
+{
+    match lend_place(&mut held.endpoint, number, want, at) {
+        Ok(n) => {
+            held.lines.lend(number, n);
+            Ok(n)
+        }
+        Err(refusal) => Err(refusal),
+    }
+}
+
+fn came(held: &mut Held, number: u32, n: usize) -> Result<(), Refusal>
+    ensures refused { IfSome (stream_refusal held.old.endpoint number) (λ r. result ≡ Err r) }
+    ensures more { IfNone (stream_refusal held.old.endpoint number)
+        (lent_at held.old number < n → result ≡ Err Refusal.NotLent) }
+    ensures why { IfNone (stream_refusal held.old.endpoint number) (IfErr result (λ e. e ≡ Refusal.NotLent)) }
+    ensures ok { OnOk result (HasTaken held.old number n held.new) }
+    ensures err { OnErr result (held.new ≡ held.old) }
+{
+    if held.endpoint.standing(number).is_err() {
+        return Err(Refusal::NoSuchStream);
+    }
+    if held.lines.lent(number) < n {
+        return Err(Refusal::NotLent);
+    }
+    match held.endpoint.came(number, n) {
+        Ok(true) => {
+            held.lines.lend(number, 0);
+            Ok(())
+        }
+        _ => Err(Refusal::NotLent),
+    }
+}
+
+impl Handle {
+    /// Lends the place past the last octet that came at a stream ([`Endpoint::lend_place`]): `at` becomes the address at
+    /// which octets from the connection may be written until the next call on the handle, and the result says for how many
+    /// there is room, `want` at most. No clause says which address it is.
+    ///
+    /// A stream that has ended lends a place too; what comes there is dropped. `WindowFull`: the stream runs, and its window
+    /// has no room before [`Handle::work`] makes some. An `Err` writes nothing, and nothing changes.
+    pub fn room(
+        &mut self,
+        alloc: Global,
+        number: u32,
+        want: usize,
+        at: &mut *mut u8,
+    ) -> Result<usize, Refusal>
+        ensures refused { IfSome (refusal_in self.old.state (λ e. stream_refusal e number)) (λ r. result ≡ Err r) }
+        ensures why { IfNone (refusal_in self.old.state (λ e. stream_refusal e number))
+            (IfErr result (λ e. (e ≡ Refusal.WindowFull) ⊎ (e ≡ Refusal.NoMemory))) }
+        ensures full { result ≡ Err Refusal.WindowFull → IfSome self.old.state (λ held. IsFull held.endpoint number) }
+        ensures lent { IfOk result (λ n. Some n ≡ told_in self.old.state (λ e. lendable_at e number want)) }
+        ensures kept { OnErr result (at.new ≡ at.old) }
+        ensures ok { IfOk result (λ n. self.new.state ≡ lent_in self.old.state number n) }
+        ensures err { OnErr result (self.new.state ≡ self.old.state) }
+    {
+        let Some(mut held) = self.take(alloc) else {
+            return Err(Refusal::Closed);
+        };
+        let done = room(&mut held, number, want, at);
+        self.put(held);
+        done
+    }
+
+    /// Takes the first `n` octets that stand in the place that was lent last as one delivery, past the last octet that came
+    /// ([`Endpoint::came`]). Then no place is lent. `NotLent`: `n` is 0, or more than were lent, or the place is lost, since
+    /// octets were delivered after it was lent. An `Err` changes nothing.
+    pub fn came(&mut self, alloc: Global, number: u32, n: usize) -> Result<(), Refusal>
+        ensures refused { IfSome (refusal_in self.old.state (λ e. stream_refusal e number)) (λ r. result ≡ Err r) }
+        ensures more { IfSome self.old.state (λ held. IfNone (stream_refusal held.endpoint number)
+            (lent_at held number < n → result ≡ Err Refusal.NotLent)) }
+        ensures why { IfNone (refusal_in self.old.state (λ e. stream_refusal e number))
+            (IfErr result (λ e. e ≡ Refusal.NotLent)) }
+        ensures ok { OnOk result
+            (IfSome self.old.state (λ held. IsSomeAnd self.new.state (λ after. HasTaken held number n after))) }
+        ensures err { OnErr result (self.new.state ≡ self.old.state) }
+    {
+        let Some(mut held) = self.take(alloc) else {
+            return Err(Refusal::Closed);
+        };
+        let done = came(&mut held, number, n);
+        self.put(held);
+        done
+    }
+}

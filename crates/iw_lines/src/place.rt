@@ -1,0 +1,80 @@
+ghost use Rattle.std.specs.Prelude.{◌≡◌, IfOk};
+ghost use Rattle.iw_lines.specs.Line.{new_line, with_handed, with_token, oldest_token, without_oldest, with_lent};
+ghost use Rattle.iw_lines.specs.Handed.{nothing_handed, told_of};
+
+use crate::handed::Handed;
+use crate::line::Line;
+use std::alloc::{AllocError, Global};
+use std::marker::Model;
+
+/// A line, in memory of its own.
+#[derive(Drop)]
+pub struct Place {
+    line: Box<Line>,
+}
+
+impl Model for Place {
+    ghost use Rattle.iw_lines.specs.declared.line.Line.{Line};
+
+    ghost Value = { Line };
+
+    ghost view = { λ p. p.line.value };
+}
+
+impl Place {
+    pub(crate) fn new(alloc: Global) -> Result<Place, AllocError>
+        ensures { IfOk result (λ place. place ≡ new_line) }
+    {
+        let line = Box::new(alloc, Line::new(alloc))?;
+        Ok(Place { line })
+    }
+
+    pub(crate) fn keep(&mut self, handed: Handed)
+        ensures { self.new ≡ with_handed self.old handed }
+    {
+        self.line.keep(handed);
+    }
+
+    pub(crate) fn told(&self) -> &[u8]
+        ensures { result.now ≡ told_of self.now.handed }
+    {
+        self.line.as_ref().handed.told()
+    }
+
+    pub(crate) fn fetch(&mut self, alloc: Global) -> Handed
+        ensures handed { result ≡ self.old.handed }
+        ensures after { self.new ≡ with_handed self.old nothing_handed }
+    {
+        self.line.fetch(alloc)
+    }
+
+    pub(crate) fn push(&mut self, token: u64)
+        ensures { self.new ≡ with_token self.old token }
+    {
+        self.line.push(token);
+    }
+
+    pub(crate) fn oldest(&self) -> u64
+        ensures { result ≡ oldest_token self.now }
+    {
+        self.line.oldest()
+    }
+
+    pub(crate) fn lend(&mut self, n: usize)
+        ensures { self.new ≡ with_lent self.old n }
+    {
+        self.line.lend(n);
+    }
+
+    pub(crate) fn lent(&self) -> usize
+        ensures { result ≡ self.now.lent }
+    {
+        self.line.as_ref().lent
+    }
+
+    pub(crate) fn pop(&mut self)
+        ensures { self.new ≡ without_oldest self.old }
+    {
+        self.line.pop();
+    }
+}
