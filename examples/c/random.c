@@ -59,9 +59,10 @@ static struct iwarp handles[HANDLES];
 static struct iwarp_buffer buffers[BUFFERS];
 static uint8_t given[LONGEST], out[LONGEST], before[LONGEST];
 static uint32_t stags[16];
+static uint32_t streams[4]; /* numbers that the library gave */
 static unsigned long refused_before;
 
-static uint32_t any_stream(void) { return below(20) ? below(4) : chance(); }
+static uint32_t any_stream(void) { return below(20) ? (below(3) ? below(4) : streams[below(4)]) : chance(); }
 
 static uint32_t any_domain(void) { return below(20) ? 1 + below(2) : chance(); }
 
@@ -95,9 +96,23 @@ static void call_memory(struct iwarp *handle, struct iwarp_buffer *buffer) {
     struct iwarp_facts facts;
     uint8_t *at, *later;
     size_t had = has(buffer, &at);
-    switch (below(14)) {
+    switch (below(16)) {
     case 0:
         answered(iwarp_add_domain(handle, pd));
+        return;
+    case 13:
+        if (answered(iwarp_register_for(handle, any_stream(), any_place(), given, len, any_bits(15), &stag)))
+            stags[below(16)] = stag;
+        else
+            CHECK(stag == MARK);
+        return;
+    case 14:
+        if (answered(iwarp_register_buffer_for(handle, any_stream(), any_place(), buffer, any_bits(15), &stag))) {
+            stags[below(16)] = stag;
+            CHECK(has(buffer, &later) == 0);
+        } else {
+            CHECK(stag == MARK && has(buffer, &later) == had && later == at);
+        }
         return;
     case 1:
         if (answered(iwarp_register(handle, pd, any_place(), given, len, any_bits(15), &stag)))
@@ -139,7 +154,7 @@ static void call_memory(struct iwarp *handle, struct iwarp_buffer *buffer) {
         keeps_out(answered(iwarp_load(handle, named, any_place(), out, len)));
         return;
     case 10:
-        if (answered(iwarp_facts(handle, named, &facts))) CHECK(facts.valid < 2 && facts.rights < 16);
+        if (answered(iwarp_facts(handle, named, &facts))) CHECK(facts.valid < 2 && facts.rights < 16 && facts.limited < 2);
         return;
     case 11:
         if (answered(iwarp_buffer_new(len, buffer)))
@@ -157,17 +172,32 @@ static void call_memory(struct iwarp *handle, struct iwarp_buffer *buffer) {
 
 /* Streams and pools. */
 static void call_stream(struct iwarp *handle, struct iwarp_buffer *buffer) {
-    uint32_t stream = any_stream(), pd = any_domain(), found = MARK, agreed = MARK;
+    uint32_t stream = any_stream(), pd = any_domain(), found = MARK, agreed = MARK, life = MARK, number = MARK;
     size_t n = MARK, len = any_length();
     struct iwarp_told told;
     uint8_t *at, *later;
     size_t had = has(buffer, &at);
-    switch (below(13)) {
+    switch (below(17)) {
+    case 14:
+        if (answered(iwarp_open_next(handle, pd, below(3), any_bits(15), given, below(600), &number)))
+            streams[below(4)] = number;
+        else
+            CHECK(number == MARK);
+        return;
+    case 15:
+        if (answered(iwarp_open_shared_next(handle, pd, below(3), any_bits(15), given, below(600), &number)))
+            streams[below(4)] = number;
+        else
+            CHECK(number == MARK);
+        return;
+    case 16:
+        answered(iwarp_close(handle, stream));
+        return;
     case 0:
-        answered(iwarp_open(handle, stream, pd, below(20) ? below(3) : chance(), any_bits(7), given, below(600)));
+        answered(iwarp_open(handle, stream, pd, below(20) ? below(3) : chance(), any_bits(15), given, below(600)));
         return;
     case 1:
-        answered(iwarp_open_shared(handle, stream, pd, below(20) ? below(3) : chance(), any_bits(7), given, below(600)));
+        answered(iwarp_open_shared(handle, stream, pd, below(20) ? below(3) : chance(), any_bits(15), given, below(600)));
         return;
     case 2:
         if (!answered(iwarp_accept(handle, stream, given, below(600), &agreed))) CHECK(agreed == MARK);
@@ -179,7 +209,10 @@ static void call_stream(struct iwarp *handle, struct iwarp_buffer *buffer) {
         keeps_out(answered(iwarp_private(handle, stream, out, len, &n)));
         return;
     case 5:
-        answered(iwarp_told(handle, stream, &told));
+        if (answered(iwarp_told(handle, stream, &told))) CHECK(told.revision < 3 && told.markers < 2 && told.has_word <= told.revision / 2);
+        return;
+    case 13:
+        CHECK(answered(iwarp_state(handle, stream, &life)) ? life <= IWARP_STATE_ENDED : life == MARK);
         return;
     case 6:
         if (below(8) == 0) answered(iwarp_break(handle, stream));
@@ -210,6 +243,32 @@ static void call_stream(struct iwarp *handle, struct iwarp_buffer *buffer) {
     }
 }
 
+/* The next emission is one just if it was told. */
+static void call_due(struct iwarp *handle, uint32_t stream) {
+    struct iwarp_emission emission;
+    uint32_t wants = MARK;
+    size_t n;
+    if (!answered(iwarp_wants_write(handle, stream, &wants)))
+        CHECK(wants == MARK);
+    else if (answered(iwarp_emit(handle, stream, out, sizeof out, &n, &emission)))
+        CHECK(wants == (emission.kind != IWARP_NOTHING));
+}
+
+/* Octets are written to the place that is lent, and counted. */
+static void call_room(struct iwarp *handle, uint32_t stream) {
+    size_t want = below(3) ? below(400) : chance(), n = MARK;
+    uint8_t *at = 0;
+    if (!answered(iwarp_room(handle, stream, want, &at, &n))) {
+        CHECK(n == MARK && at == 0);
+        return;
+    }
+    CHECK(n <= want && n <= 65536);
+    CHECK(iwarp_came(handle, stream, n + 1 + below(100)) == IWARP_NOT_LENT);
+    for (size_t i = 0; i < n; i++) at[i] = (uint8_t)chance();
+    if (answered(iwarp_came(handle, stream, below(2) ? n : below((uint32_t)n + 1))))
+        CHECK(iwarp_came(handle, stream, 1) == IWARP_NOT_LENT);
+}
+
 /* Postings, and octets that come and go: those of the one handle to the other, or any. */
 static void call_octets(struct iwarp *handle, struct iwarp *other, struct iwarp_buffer *buffer) {
     static uint8_t frame[66000];
@@ -221,7 +280,13 @@ static void call_octets(struct iwarp *handle, struct iwarp *other, struct iwarp_
     uint8_t *at, *later;
     size_t had = has(buffer, &at);
     struct iwarp_progress progress = {.sent = MARK};
-    switch (below(13)) {
+    switch (below(15)) {
+    case 13:
+        call_room(handle, stream);
+        return;
+    case 12:
+        call_due(handle, stream);
+        return;
     case 11:
         if (!answered(iwarp_progress(handle, stream, &progress))) CHECK(progress.sent == MARK);
         return;
@@ -303,7 +368,7 @@ static void any_calls(void) {
 
 /* ---- two ends and a model */
 
-enum { STREAM = 0, DOMAIN = 1, REGION = 200000, MESSAGE = 2000, POSTED = 200, SENT = 1 << 20 };
+enum { STREAM = 64, DOMAIN = 1, REGION = 200000, MESSAGE = 2000, POSTED = 200, SENT = 1 << 20 };
 
 /* What one end has posted, and what of it was reported as done. */
 struct sender {
@@ -319,6 +384,7 @@ struct sender {
     size_t end_of_written;
     uint8_t *sent; /* all that was emitted */
     size_t emitted, delivered; /* how much that is, and up to where the other end had all of it */
+    size_t reached; /* past the last octet of it that the other end had */
 };
 
 static struct sender ends[2];
@@ -336,11 +402,13 @@ static struct sender ends[2];
     } while (0)
 
 static void begin(struct sender *sender, struct sender *other, uint32_t options) {
+    uint32_t number;
     MUST(iwarp_new(&sender->end));
     MUST(iwarp_add_domain(&sender->end, DOMAIN));
     MUST(iwarp_register(&sender->end, DOMAIN, 0, other->written, REGION, IWARP_WRITE | IWARP_READ, &other->stag));
     MUST(iwarp_register(&sender->end, DOMAIN, 0, sender->written, REGION, IWARP_SINK, &sender->sink));
-    MUST(iwarp_open(&sender->end, STREAM, DOMAIN, IWARP_PRESET, options, given, 0));
+    MUST(iwarp_open_next(&sender->end, DOMAIN, IWARP_PRESET, options, given, 0, &number));
+    CHECK(number == STREAM);
     MUST(iwarp_set_mulpdu(&sender->end, STREAM, 128 + below(1500)));
     for (int i = 0; i < POSTED; i++) MUST(iwarp_post_recv(&sender->end, STREAM, MESSAGE));
 }
@@ -372,10 +440,12 @@ static void post(struct sender *sender) {
 
 static void emit(struct sender *sender) {
     struct iwarp_emission emission;
+    uint32_t wants;
     size_t n;
     if (sender->emitted + 70000 > SENT) return;
+    MUST(iwarp_wants_write(&sender->end, STREAM, &wants));
     MUST(iwarp_emit(&sender->end, STREAM, sender->sent + sender->emitted, SENT - sender->emitted, &n, &emission));
-    CHECK(emission.kind != IWARP_DENIED && (emission.kind != IWARP_NOTHING || n == 0));
+    CHECK(emission.kind != IWARP_DENIED && wants == (emission.kind != IWARP_NOTHING) && (wants || n == 0));
     sender->emitted += n;
 }
 
@@ -409,11 +479,31 @@ static void work(struct sender *sender, struct sender *other) {
     } while (event.kind != IWARP_IDLE);
 }
 
+/* n octets of what was emitted have come. */
+static void has_come(struct sender *from, size_t at, size_t n) {
+    if (at <= from->delivered && at + n > from->delivered) from->delivered = at + n;
+    if (at + n > from->reached) from->reached = at + n;
+}
+
+/* Delivers the octets past the last that came, in the place that is lent for them. */
+static void carry_in_place(struct sender *from, struct sender *to) {
+    size_t at = from->reached, n = from->emitted - at < 3000 ? from->emitted - at : 1 + below(3000), room;
+    uint8_t *place;
+    if (n == 0) return;
+    MUST(iwarp_room(&to->end, STREAM, n, &place, &room));
+    CHECK(room == n);
+    memcpy(place, from->sent + at, n);
+    MUST(iwarp_came(&to->end, STREAM, n));
+    has_come(from, at, n);
+}
+
 /* Delivers some of what was emitted: the next octets, those further on, or those that came before. */
 static void carry(struct sender *from, struct sender *to) {
     size_t at = from->delivered, ahead = from->emitted - at, n;
     uint32_t kept;
-    switch (below(4)) {
+    switch (below(6)) {
+    case 2:
+    case 3: carry_in_place(from, to); return;
     case 0: at += ahead ? below((uint32_t)ahead) : 0; break;
     case 1: at -= at ? below((uint32_t)(at < 5000 ? at : 5000)) : 0; break;
     default: break;
@@ -421,13 +511,26 @@ static void carry(struct sender *from, struct sender *to) {
     n = from->emitted - at < 3000 ? from->emitted - at : 1 + below(3000);
     MUST(iwarp_deliver(&to->end, STREAM, (uint32_t)at, from->sent + at, n, &kept));
     CHECK(kept == 1);
-    if (at <= from->delivered && at + n > from->delivered) from->delivered = at + n;
+    has_come(from, at, n);
 }
 
 /* All that was posted is done, and has come. */
 static void settled(struct sender *sender, struct sender *other) {
     CHECK(sender->done == sender->posted && sender->received == sender->sends);
     CHECK(shows(other, sender, REGION));
+}
+
+/* A stream that is open is not closed; once it has ended and handed back what was posted, it is. */
+static void finish(struct sender *sender) {
+    struct iwarp_event event;
+    CHECK(iwarp_close(&sender->end, STREAM) == IWARP_NOT_AT_REST);
+    MUST(iwarp_break(&sender->end, STREAM));
+    do {
+        MUST(iwarp_work(&sender->end, STREAM, &event));
+    } while (event.kind != IWARP_IDLE);
+    MUST(iwarp_close(&sender->end, STREAM));
+    CHECK(iwarp_close(&sender->end, STREAM) == IWARP_NO_SUCH_STREAM);
+    iwarp_free(&sender->end);
 }
 
 static void two_ends(void) {
@@ -462,7 +565,7 @@ static void two_ends(void) {
     }
     for (int i = 0; i < 2; i++)
         if (ends[i].emitted + 70000 <= SENT && ends[1 - i].emitted + 70000 <= SENT) settled(&ends[i], &ends[1 - i]);
-    for (int i = 0; i < 2; i++) iwarp_free(&ends[i].end);
+    for (int i = 0; i < 2; i++) finish(&ends[i]);
 }
 
 int main(int n, char **words) {

@@ -7,9 +7,9 @@
  * OPTIONS is a sum of IWARP_MARKERS, IWARP_CRC and IWARP_ENHANCED; PORT is 0 for any free port. The status is 1 if a connection
  * failed. `iwarp connect --port Q` is its peer.
  *
- * Each connection has a protection domain of its own, so that no peer reaches another's region, whatever STag it names. With
- * BUFFERS, 1 to 1024, the connections of a handle share one domain, whose pool has that many receive buffers: then a peer that
- * guesses another's STag can write there until that region is invalid, so use it among peers that trust each other.
+ * At most 1024 connections are served at a time. Each has a stream, which is opened for it and closed once it is over, and a
+ * region that is registered for this stream, so that no peer reaches another's region, whatever STag it names. With BUFFERS, 1
+ * to 1024, they share a pool of that many receive buffers.
  *
  * A region is made invalid before its octets are read: until then its peer may change them (RFC 5042 6.2.2). Nothing blocks: what
  * a socket does not take is kept, and the connection is not read while it is; a peer that is silent, or reads nothing, for IDLE
@@ -18,22 +18,11 @@
  * Terminate. */
 #include "host.h"
 
-enum { REGION = 65536, BUFFER = 4096, READ = 65536, WRITE = 65536, MOST = 1024, EVENTS = 64, IDLE = 60 };
-
-/* Streams of a handle. A number is never used twice, so a handle serves STREAMS connections, and then a new one is made. */
-enum { STREAMS = 64, SHARED_DOMAIN = 1 };
-
-struct group {
-    struct iwarp end;
-    uint32_t opened; /* how many streams were opened */
-    uint32_t live; /* how many of them have a connection */
-};
+enum { REGION = 65536, BUFFER = 4096, READ = 65536, WRITE = 65536, MOST = 1024, EVENTS = 64, IDLE = 60, DOMAIN = 1 };
 
 struct connection {
     int fd; /* -1 if it has none */
-    struct group *group;
     uint32_t stream;
-    uint32_t next; /* the sequence number of the octet that comes next */
     uint32_t stag;
     struct iwarp_buffer region; /* the octets of its region, before it is registered and after it is deregistered */
     struct iwarp_buffer frames; /* what was emitted */
@@ -47,15 +36,15 @@ struct connection {
     int64_t heard; /* when octets came or went last */
 };
 
+static struct iwarp end = IWARP_CLOSED;
 static struct connection connections[MOST];
-static struct group *newest; /* the handle that takes new connections */
+static const uint8_t none[1]; /* the private data of a responder */
 static struct iwarp_buffer message = IWARP_NO_BUFFER; /* a receive buffer, between two postings */
-static uint8_t octets[READ];
 static uint32_t options;
 static int pooled; /* how many buffers a pool has; 0 if there is none */
 static int poller, listener, count, begun, live, failures;
 static int listens; /* whether the listener is watched */
-static int64_t resumes; /* not before: a table of the system was full, or memory ran out */
+static int64_t resumes; /* not before: a table of the system was full */
 
 /* Ends the program if a call was refused. */
 static void must(int32_t code, const char *call) {
@@ -74,89 +63,81 @@ static void watch(int fd, int how, uint32_t events, void *data) {
     if (epoll_ctl(poller, how, fd, &event) != 0) exit(1);
 }
 
-/* ---- handles */
+/* ---- the handle */
 
-static struct group *new_group(void) {
-    struct group *group = malloc(sizeof *group);
-    if (!group) return 0;
-    *group = (struct group){.end = IWARP_CLOSED};
-    must(iwarp_new(&group->end), "new");
-    if (!pooled) return group;
-    must(iwarp_add_domain(&group->end, SHARED_DOMAIN), "add_domain");
-    must(iwarp_share(&group->end, SHARED_DOMAIN), "share");
-    for (int i = 0; i < pooled; i++) must(iwarp_post_shared(&group->end, SHARED_DOMAIN, BUFFER), "post_shared");
-    return group;
+static void open_end(void) {
+    must(iwarp_new(&end), "new");
+    must(iwarp_add_domain(&end, DOMAIN), "add_domain");
+    if (!pooled) return;
+    must(iwarp_share(&end, DOMAIN), "share");
+    for (int i = 0; i < pooled; i++) must(iwarp_post_shared(&end, DOMAIN, BUFFER), "post_shared");
 }
 
-/* Frees a handle that has no connection; of a pool each buffer has come back. */
-static void free_group(struct group *group) {
+/* Frees it; of a pool each buffer has come back. */
+static void free_end(void) {
     uint32_t found = 1;
     for (int i = 0; pooled && i <= pooled && found; i++) {
-        must(iwarp_take_shared_buffer(&group->end, SHARED_DOMAIN, &message, &found), "take_shared_buffer");
+        must(iwarp_take_shared_buffer(&end, DOMAIN, &message, &found), "take_shared_buffer");
         if (found == (i == pooled)) failures++;
     }
-    iwarp_free(&group->end);
-    free(group);
+    iwarp_free(&end);
 }
 
 /* ---- a connection's stream */
 
-/* Makes what a connection has at its handle: a region and a stream, with a receive buffer unless there is a pool. */
+/* Makes what a connection has at the handle: a stream, with a receive buffer unless there is a pool, and a region. */
 static void open_stream(struct connection *connection) {
-    struct iwarp *end = &connection->group->end;
-    uint32_t pd = pooled ? SHARED_DOMAIN : connection->stream + 1;
-    if (!pooled) must(iwarp_add_domain(end, pd), "add_domain");
+    uint32_t *stream = &connection->stream;
+    if (pooled) {
+        must(iwarp_open_shared_next(&end, DOMAIN, IWARP_RESPONDER, options, none, 0, stream), "open_shared_next");
+    } else {
+        must(iwarp_open_next(&end, DOMAIN, IWARP_RESPONDER, options, none, 0, stream), "open_next");
+        must(iwarp_post_recv(&end, *stream, BUFFER), "post_recv");
+    }
     must(iwarp_buffer_new(REGION, &connection->region), "buffer_new");
     must(iwarp_buffer_new(0, &connection->frames), "buffer_new");
-    must(iwarp_register_buffer(end, pd, 0, &connection->region, IWARP_WRITE, &connection->stag), "register_buffer");
-    if (pooled) {
-        must(iwarp_open_shared(end, connection->stream, pd, IWARP_RESPONDER, options, octets, 0), "open_shared");
-    } else {
-        must(iwarp_open(end, connection->stream, pd, IWARP_RESPONDER, options, octets, 0), "open");
-        must(iwarp_post_recv(end, connection->stream, BUFFER), "post_recv");
-    }
+    must(iwarp_register_buffer_for(&end, *stream, 0, &connection->region, IWARP_WRITE, &connection->stag), "register_buffer_for");
 }
 
 /* Accepts the peer's Request, with its region's STag, highest octet first, as private data. */
 static void answer(struct connection *connection) {
     uint32_t stag = connection->stag, agreed;
     uint8_t name[4] = {(uint8_t)(stag >> 24), (uint8_t)(stag >> 16), (uint8_t)(stag >> 8), (uint8_t)stag};
-    must(iwarp_accept(&connection->group->end, connection->stream, name, 4, &agreed), "accept");
+    must(iwarp_accept(&end, connection->stream, name, 4, &agreed), "accept");
 }
 
 static void give_back(struct connection *connection) {
     size_t len;
-    must(iwarp_fetch_buffer(&connection->group->end, connection->stream, &message, &len), "fetch_buffer");
-    if (pooled) must(iwarp_post_shared_buffer(&connection->group->end, SHARED_DOMAIN, &message), "post_shared_buffer");
+    must(iwarp_fetch_buffer(&end, connection->stream, &message, &len), "fetch_buffer");
+    if (pooled) must(iwarp_post_shared_buffer(&end, DOMAIN, &message), "post_shared_buffer");
 }
 
 /* A Send came: sends back as many octets of the region, which its peer can no longer write. */
 static void echo(struct connection *connection) {
-    struct iwarp *end = &connection->group->end;
     static uint8_t reply[BUFFER];
     uint8_t *region, *at;
     size_t n, all;
-    must(iwarp_fetch_buffer(end, connection->stream, &message, &n), "fetch_buffer");
+    must(iwarp_fetch_buffer(&end, connection->stream, &message, &n), "fetch_buffer");
     must(iwarp_buffer_at(&message, &at, &all), "buffer_at");
     printf("stream %d received ", (int)connection->stream);
     print_octets(at, n);
     printf("\n");
     fflush(0);
     connection->received = 1;
-    must(iwarp_invalidate(end, connection->stag), "invalidate");
-    must(iwarp_region_at(end, connection->stag, &region, &all), "region_at");
+    must(iwarp_invalidate(&end, connection->stag), "invalidate");
+    must(iwarp_region_at(&end, connection->stag, &region, &all), "region_at");
     memcpy(reply, region, n);
-    int32_t posted = iwarp_post_send(end, connection->stream, reply, n, 0, 0, 0);
+    int32_t posted = iwarp_post_send(&end, connection->stream, reply, n, 0, 0, 0);
     if (posted != IWARP_OK && posted != IWARP_MESSAGES_FULL) must(posted, "post_send");
     if (posted != IWARP_OK) connection->failed = 1;
-    if (pooled) must(iwarp_post_shared_buffer(end, SHARED_DOMAIN, &message), "post_shared_buffer");
+    if (pooled) must(iwarp_post_shared_buffer(&end, DOMAIN, &message), "post_shared_buffer");
 }
 
 /* Works until there is nothing to do. */
 static void work(struct connection *connection) {
     struct iwarp_event event;
     for (;;) {
-        must(iwarp_work_on(&connection->group->end, connection->stream, &event), "work_on");
+        must(iwarp_work_on(&end, connection->stream, &event), "work_on");
         switch (event.kind) {
         case IWARP_IDLE:
             return;
@@ -187,22 +168,18 @@ static void work(struct connection *connection) {
 
 /* ---- a connection's socket */
 
-/* The connection is over: gets back what was posted and the region, and frees the handle if it serves no more. */
+/* The connection is over: gets back what was posted, closes the stream and gets back the region. */
 static void finish(struct connection *connection) {
-    struct group *group = connection->group;
-    must(iwarp_break(&group->end, connection->stream), "break");
+    must(iwarp_break(&end, connection->stream), "break");
     work(connection);
-    must(iwarp_deregister_buffer(&group->end, connection->stag, &connection->region), "deregister_buffer");
+    must(iwarp_close(&end, connection->stream), "close");
+    must(iwarp_deregister_buffer(&end, connection->stag, &connection->region), "deregister_buffer");
     iwarp_buffer_free(&connection->region);
     iwarp_buffer_free(&connection->frames);
     if (connection->failed || !connection->received) failures++;
     close(connection->fd);
     connection->fd = -1;
     live--;
-    if (--group->live == 0 && group->opened == STREAMS) {
-        if (group == newest) newest = 0;
-        free_group(group);
-    }
 }
 
 /* Has the poller tell when the socket can be written, if there is something to write, else when it can be read. */
@@ -216,25 +193,21 @@ static size_t gather(struct connection *connection, uint8_t **at) {
     struct iwarp_emission emission;
     size_t n;
     do {
-        must(iwarp_emit_onto(&connection->group->end, connection->stream, &connection->frames, &emission), "emit_onto");
+        must(iwarp_emit_onto(&end, connection->stream, &connection->frames, &emission), "emit_onto");
         must(iwarp_buffer_at(&connection->frames, at, &n), "buffer_at");
     } while (emission.kind != IWARP_NOTHING && n < WRITE);
     return n;
 }
 
-/* Writes as much as the socket takes. Returns 1 if all was written, 0 if some is left, -1 if the connection broke. */
+/* Writes what is left of the frames that were gathered, or gathers more and writes those: a turn for each connection. Returns 1 if
+ * nothing is left to write, 0 if something is, -1 if the connection broke. */
 static int write_some(struct connection *connection, int64_t now) {
     uint8_t *at;
     size_t n;
-    for (;;) {
-        must(iwarp_buffer_at(&connection->frames, &at, &n), "buffer_at");
-        if (connection->written == n) {
-            must(iwarp_buffer_truncate(&connection->frames, 0), "buffer_truncate");
-            connection->written = 0;
-            work(connection);
-            n = gather(connection, &at);
-            if (n == 0) return 1;
-        }
+    uint32_t wants;
+    must(iwarp_buffer_at(&connection->frames, &at, &n), "buffer_at");
+    if (n == 0) n = gather(connection, &at);
+    while (connection->written < n) {
         ssize_t wrote = send(connection->fd, at + connection->written, n - connection->written, MSG_NOSIGNAL | MSG_DONTWAIT);
         if (wrote < 0 && errno == EINTR) continue;
         if (wrote < 0 && errno == EAGAIN) return 0;
@@ -242,6 +215,11 @@ static int write_some(struct connection *connection, int64_t now) {
         connection->written += (size_t)wrote;
         connection->heard = now;
     }
+    must(iwarp_buffer_truncate(&connection->frames, 0), "buffer_truncate");
+    connection->written = 0;
+    work(connection);
+    must(iwarp_wants_write(&end, connection->stream, &wants), "wants_write");
+    return !wants;
 }
 
 /* Goes on with what is due. Once all is written of a stream that has ended, shuts the output down. */
@@ -263,10 +241,12 @@ static void go_on(struct connection *connection, int64_t now) {
     }
 }
 
-/* Delivers what a read gives. */
+/* Reads to where the octets are to stand. */
 static void take(struct connection *connection, int64_t now) {
-    uint32_t kept;
-    ssize_t n = recv(connection->fd, octets, sizeof octets, MSG_DONTWAIT);
+    uint8_t *at;
+    size_t room;
+    must(iwarp_room(&end, connection->stream, READ, &at, &room), "room");
+    ssize_t n = recv(connection->fd, at, room, MSG_DONTWAIT);
     if (n < 0 && (errno == EINTR || errno == EAGAIN)) return;
     if (n <= 0) {
         finish(connection);
@@ -274,8 +254,7 @@ static void take(struct connection *connection, int64_t now) {
     }
     connection->heard = now;
     if (connection->shut) return;
-    must(iwarp_deliver(&connection->group->end, connection->stream, connection->next, octets, (size_t)n, &kept), "deliver");
-    connection->next += (uint32_t)n;
+    must(iwarp_came(&end, connection->stream, (size_t)n), "came");
     work(connection);
     go_on(connection, now);
 }
@@ -295,21 +274,16 @@ static struct connection *free_place(void) {
 
 static void begin(int64_t now) {
     struct connection *connection = free_place();
-    if (!connection || (!newest && !(newest = new_group()))) {
-        resumes = now + 1;
-        return;
-    }
+    if (!connection) return;
     int fd = accept(listener, 0, 0);
     if (fd < 0) {
         if (errno == EMFILE || errno == ENFILE) resumes = now + 1;
         return;
     }
-    *connection = (struct connection){.fd = fd, .group = newest, .stream = newest->opened++, .heard = now, .waits_for = EPOLLIN};
-    newest->live++;
+    *connection = (struct connection){.fd = fd, .heard = now, .waits_for = EPOLLIN};
     live++;
     begun++;
     open_stream(connection);
-    if (newest->opened == STREAMS) newest = 0;
     watch(fd, EPOLL_CTL_ADD, EPOLLIN, connection);
 }
 
@@ -365,11 +339,12 @@ int main(int n, char **words) {
     must(iwarp_buffer_new(0, &message), "buffer_new");
     poller = epoll_create1(0);
     if (poller < 0) return 1;
+    open_end();
     listener = bound(port);
     serve();
     close(listener);
     close(poller);
-    if (newest) free_group(newest);
+    free_end();
     iwarp_buffer_free(&message);
     return failures > 0;
 }
