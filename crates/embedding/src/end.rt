@@ -36,7 +36,7 @@ fn is_for_later(kind: ErrorKind) -> bool {
 
 /// An endpoint with a domain and a stream in it.
 pub(crate) fn open_endpoint(alloc: Global, role: Role) -> Result<Endpoint> {
-    let mut endpoint = Endpoint::new(alloc)?;
+    let mut endpoint = Endpoint::new(alloc);
     if let Err(refusal) = endpoint.add_domain(DOMAIN) {
         bail!("add_domain: {refusal:?}");
     }
@@ -107,7 +107,6 @@ impl End {
         match take(&mut self.endpoint, STREAM, socket) {
             Ok(Intake::Came(_) | Intake::Full) => self.act(rt),
             Ok(Intake::End) => self.closed(rt),
-            Ok(Intake::Gap) => bail!("take: octets were delivered past a gap"),
             Err(CallRefusal::Refused(error)) if is_for_later(error.kind()) => Ok(()),
             Err(refusal) => bail!("take: {refusal:?}"),
         }

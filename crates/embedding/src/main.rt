@@ -4,9 +4,10 @@
 //! there, sends a message, and reads back what it wrote. Then it invalidates the region by a Send and reads from it all
 //! the same: `b` ends the stream by a Terminate, and each end gets back what it had posted. Then `c` opens a connection to
 //! `d`, which gets the octets of a message out of order, and hands them to its endpoint with their sequence numbers. Each
-//! end prints what it does.
+//! end prints what it does. At last a message goes from one stream to another without an endpoint.
 #![tactic(auto)]
 
+mod alone;
 mod end;
 mod numbered;
 
@@ -197,7 +198,8 @@ fn run_out_of_order<R: Runtime + AllocGlobal>(rt: &R) -> Result<()> {
 
 fn run<R: Runtime + AllocGlobal>(rt: &R) -> Result<()> {
     run_in_order(rt)?;
-    run_out_of_order(rt)
+    run_out_of_order(rt)?;
+    alone::talk(rt)
 }
 
 fn main(rt: HostRuntime) -> Result<()> {
