@@ -29,6 +29,15 @@ const MAX_LOOK: f64 = 1.1;
 /// How many octets each of 10,000 idle streams may hold.
 const MAX_IDLE: f64 = 2_700.0;
 
+/// How many octets each of 10,000 streams that have ended may hold.
+const MAX_ENDED: f64 = 4_096.0;
+
+/// How many octets an endpoint with a domain and no stream may hold.
+const MAX_EMPTY: f64 = 2_048.0;
+
+/// How many endpoints of 64 streams there are, one after the other.
+const HANDLES: u32 = 1_563;
+
 const LOOK_UPS: u64 = 50_000_000;
 
 const IDLE: u32 = 10_000;
@@ -36,13 +45,23 @@ const IDLE: u32 = 10_000;
 unsafe extern "C" {
     fn many_serve(connections: u32, alive: u32, octets: *const u8, n: usize) -> u32;
     fn many_idle(streams: u32, shares: bool) -> u32;
-    fn many_none() -> bool;
+    fn many_handles(endpoints: u32, octets: *const u8, n: usize) -> u32;
+    fn many_ended(streams: u32) -> u32;
     fn many_look(streams: u32, rounds: u64) -> u64;
 }
 
 fn serve(connections: u32, alive: u32) {
     let octets = [7; WRITE];
     assert_eq!(unsafe { many_serve(connections, alive, octets.as_ptr(), octets.len()) }, connections);
+}
+
+fn handles(endpoints: u32) {
+    let octets = [7; WRITE];
+    assert_eq!(unsafe { many_handles(endpoints, octets.as_ptr(), octets.len()) }, endpoints);
+}
+
+fn ended(streams: u32) -> usize {
+    most_held(|| assert_eq!(unsafe { many_ended(streams) }, streams))
 }
 
 fn idle(streams: u32, shares: bool) -> usize {
@@ -82,6 +101,14 @@ fn judge_served(connections: u32, alive: u32, wanted: &mut Wanted) {
     wanted.at_most("held at the most, to the same of the first thousand", all as f64 / first as f64, MAX_HELD);
 }
 
+/// The same connections, at a new endpoint for each 64.
+fn judge_handles() {
+    let mut took = 0.0;
+    let held = most_held(|| took = time(|| handles(HANDLES))) - REGIONS;
+    let connections = 64 * HANDLES;
+    println!("{connections} connections, a new endpoint for each 64: {:.1} microseconds each, {held} octets held", took / f64::from(connections));
+}
+
 /// The least time of a look-up beside so many streams: with look-ups, less the same without.
 fn look_up(streams: u32, turns: usize) -> f64 {
     let least = |rounds| (0..turns).map(|_| time(|| look(streams, rounds))).fold(f64::INFINITY, f64::min);
@@ -94,13 +121,14 @@ fn main() {
     judge_served(10_000, ALIVE, &mut wanted);
     judge_served(100_000, 1, &mut wanted);
     judge_served(1_000_000, 1, &mut wanted);
+    judge_handles();
     let (alone, beside) = (look_up(1, turns), look_up(100_000, turns));
     println!("a look-up alone: {:.2} ns", alone * 1_000.0);
     wanted.at_most("a look-up beside 100,000 streams, to one alone", beside / alone, MAX_LOOK);
-    println!("an endpoint with no domain: {} octets", most_held(|| assert!(unsafe { many_none() })));
-    println!("with a domain: {} octets", idle(0, false));
+    wanted.at_most("octets of an endpoint with a domain and no stream", idle(0, false) as f64, MAX_EMPTY);
     let a_stream = |shares| idle(IDLE, shares) as f64 / f64::from(IDLE);
     wanted.at_most("octets of an idle stream, of 10,000", a_stream(false), MAX_IDLE);
     println!("octets of one that shares a pool, of 10,000: {:.0}", a_stream(true));
+    wanted.at_most("octets of a stream that has ended, of 10,000", ended(IDLE) as f64 / f64::from(IDLE), MAX_ENDED);
     std::process::exit((wanted.missed > 0).into());
 }

@@ -15,7 +15,7 @@ const WRITES: Rights = Rights {
 
 // An endpoint with an open stream, and a region of zero octets that peers may write.
 fn opened(alloc: Global, octets: usize) -> Option<Endpoint> {
-    let mut endpoint = Endpoint::new(alloc).ok()?;
+    let mut endpoint = Endpoint::new(alloc);
     let _ = endpoint.add_domain(1);
     let region = Vec::from_elem(alloc, 0u8, octets).ok()?;
     let _ = endpoint.register(1, 0, region, WRITES);

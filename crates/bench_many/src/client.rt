@@ -1,7 +1,7 @@
 use bytes::Bytes;
 use iw_connection::{Filled, fill};
 use iw_endpoint::{Config, Endpoint, Establishment, Message, PrivateData, Request, Role, Stag};
-use std::alloc::{AllocError, Global};
+use std::alloc::{AllocError, AllocFailed, Global};
 
 const DOMAIN: u8 = 1;
 
@@ -13,6 +13,12 @@ pub(crate) struct Stop;
 
 impl From<AllocError> for Stop {
     fn from(_error: AllocError) -> Self {
+        Stop
+    }
+}
+
+impl<T: Drop> From<AllocFailed<T>> for Stop {
+    fn from(_error: AllocFailed<T>) -> Self {
         Stop
     }
 }
@@ -80,7 +86,7 @@ fn emit_all(endpoint: &mut Endpoint, out: &mut Vec<u8>) -> Result<(), Stop> {
 
 /// The frames of a Write of the octets to the beginning of a region, and of a Send.
 pub(crate) fn frames(alloc: Global, stag: Stag, octets: &[u8]) -> Result<Vec<u8>, Stop> {
-    let mut endpoint = Endpoint::new(alloc)?;
+    let mut endpoint = Endpoint::new(alloc);
     set_up(&mut endpoint)?;
     post_both(alloc, &mut endpoint, stag, octets)?;
     let mut out = Vec::new(alloc);

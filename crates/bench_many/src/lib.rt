@@ -2,9 +2,10 @@
 #![tactic(auto)]
 
 mod client;
+mod ended;
+mod handles;
 mod server;
 
-use server::Server;
 use std::alloc::Global;
 
 /// Serves connections one after the other. Each is opened, takes a Write of these octets and a Send, and is ended and closed
@@ -23,10 +24,24 @@ pub extern "C" fn many_idle(alloc: Global, streams: u32, shares: bool) -> u32 {
     server::idle(alloc, streams, shares).unwrap_or(0)
 }
 
-/// Makes an endpoint with no domain. Returns whether it could.
+/// Serves 64 such connections, one after the other, at each of so many endpoints. Returns how many endpoints there were; 0
+/// if anything went wrong.
 #[unsafe(no_mangle)]
-pub extern "C" fn many_none(alloc: Global) -> bool {
-    Server::new(alloc).is_ok()
+pub extern "C" fn many_handles(alloc: Global, endpoints: u32, octets: &[u8]) -> u32 {
+    match handles::serve(alloc, endpoints, octets) {
+        Ok(()) => endpoints,
+        Err(_) => 0,
+    }
+}
+
+/// Opens streams that end at once, after octets came to each with gaps before them, and a Read of each was asked for. None
+/// is closed. Returns how many there were; 0 if anything went wrong.
+#[unsafe(no_mangle)]
+pub extern "C" fn many_ended(alloc: Global, streams: u32) -> u32 {
+    match ended::end_all(alloc, streams) {
+        Ok(()) => streams,
+        Err(_) => 0,
+    }
 }
 
 /// Opens streams, and looks one and the same of them up again and again. Returns how often it was found.

@@ -5,7 +5,8 @@ use std::alloc::Global;
 
 const DOMAIN: u8 = 1;
 
-const REGIONS: u32 = 4;
+/// How many regions there are.
+pub(crate) const REGIONS: u32 = 4;
 
 const REGION: usize = 1 << 24;
 
@@ -14,6 +15,18 @@ const FIRST: u32 = STREAM_NUMBERS as u32;
 // The most steps that are done at a stream in one go.
 const MAX_STEPS: u32 = 1_000;
 
+const WRITE: Rights = Rights {
+    write: true,
+    read: false,
+    sink: false,
+    invalidate: false,
+};
+
+/// The octets of a region.
+pub(crate) fn region(alloc: Global) -> Result<Vec<u8>, Stop> {
+    Ok(vec![in alloc; 0u8; REGION]?)
+}
+
 /// The end that serves.
 #[derive(Drop)]
 pub(crate) struct Server {
@@ -21,13 +34,13 @@ pub(crate) struct Server {
 }
 
 impl Server {
-    pub(crate) fn new(alloc: Global) -> Result<Server, Stop> {
-        Ok(Server {
-            endpoint: Endpoint::new(alloc)?,
-        })
+    pub(crate) fn new(alloc: Global) -> Server {
+        Server {
+            endpoint: Endpoint::new(alloc),
+        }
     }
 
-    fn add_domain(&mut self, shares: bool) -> Result<(), Stop> {
+    pub(crate) fn add_domain(&mut self, shares: bool) -> Result<(), Stop> {
         if self.endpoint.add_domain(DOMAIN).is_err() {
             return Err(Stop);
         }
@@ -38,18 +51,17 @@ impl Server {
     }
 
     // Registers a region that peers may write to.
-    fn register(&mut self, alloc: Global) -> Result<Stag, Stop> {
-        let rights = Rights {
-            write: true,
-            read: false,
-            sink: false,
-            invalidate: false,
-        };
-        match self
-            .endpoint
-            .register(DOMAIN, 0, vec![in alloc; 0u8; REGION]?, rights)
-        {
+    pub(crate) fn register(&mut self, octets: Vec<u8>) -> Result<Stag, Stop> {
+        match self.endpoint.register(DOMAIN, 0, octets, WRITE) {
             Ok(stag) => Ok(stag),
+            Err(_) => Err(Stop),
+        }
+    }
+
+    /// Takes a region back. Returns its octets.
+    pub(crate) fn deregister(&mut self, stag: Stag) -> Result<Vec<u8>, Stop> {
+        match self.endpoint.deregister(stag) {
+            Ok(octets) => Ok(octets),
             Err(_) => Err(Stop),
         }
     }
@@ -124,6 +136,27 @@ impl Server {
         }
     }
 
+    /// Serves the connection of a number that no stream had.
+    pub(crate) fn serve_one(
+        &mut self,
+        alloc: Global,
+        number: u32,
+        all: &[Vec<u8>],
+    ) -> Result<(), Stop> {
+        if self
+            .endpoint
+            .open(number, DOMAIN, Role::Preset, config())
+            .is_err()
+        {
+            return Err(Stop);
+        }
+        let Some(frames) = all.get((number % REGIONS) as usize) else {
+            return Err(Stop);
+        };
+        self.carry(alloc, number, frames)?;
+        self.close(number)
+    }
+
     // Serves the next connection, and closes the one that was opened `alive` before it.
     fn serve_next(&mut self, alloc: Global, alive: u32, all: &[Vec<u8>]) -> Result<(), Stop> {
         let number = self.open(false)?;
@@ -154,7 +187,7 @@ impl Server {
     fn register_all(&mut self, alloc: Global, octets: &[u8]) -> Result<Vec<Vec<u8>>, Stop> {
         let mut all = Vec::with_capacity(alloc, REGIONS as usize)?;
         for _ in 0..REGIONS {
-            let stag = self.register(alloc)?;
+            let stag = self.register(region(alloc)?)?;
             let frames = frames(alloc, stag, octets)?;
             all.reserve(1)?;
             all.push_reserved(frames);
@@ -170,7 +203,7 @@ pub(crate) fn serve(
     alive: u32,
     octets: &[u8],
 ) -> Result<(), Stop> {
-    let mut server = Server::new(alloc)?;
+    let mut server = Server::new(alloc);
     server.add_domain(false)?;
     let all = server.register_all(alloc, octets)?;
     server.serve_all(alloc, connections, alive, &all)
@@ -178,7 +211,7 @@ pub(crate) fn serve(
 
 /// Opens streams.
 pub(crate) fn idle(alloc: Global, streams: u32, shares: bool) -> Result<u32, Stop> {
-    let mut server = Server::new(alloc)?;
+    let mut server = Server::new(alloc);
     server.add_domain(shares)?;
     server.open_all(streams, shares)?;
     Ok(streams)
@@ -201,7 +234,7 @@ fn look_up(endpoint: &mut Endpoint, rounds: u64) -> u64 {
 
 /// Opens streams, and looks the first up.
 pub(crate) fn look(alloc: Global, streams: u32, rounds: u64) -> Result<u64, Stop> {
-    let mut server = Server::new(alloc)?;
+    let mut server = Server::new(alloc);
     server.add_domain(false)?;
     server.open_all(streams, false)?;
     Ok(look_up(&mut server.endpoint, rounds))

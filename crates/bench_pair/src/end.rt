@@ -26,7 +26,7 @@ fn made<T: Drop, E: Debug + Drop>(call: &str, answer: Result<T, E>) -> Result<T>
 
 /// An end that is open at once, with a buffer for a message. The other end's first octet has the number [`FIRST`].
 pub(crate) fn end(alloc: Global, mulpdu: u32, is_framed: bool) -> Result<Endpoint> {
-    let mut endpoint = Endpoint::new(alloc)?;
+    let mut endpoint = Endpoint::new(alloc);
     set_up(alloc, &mut endpoint, mulpdu, is_framed)?;
     Ok(endpoint)
 }

@@ -11,7 +11,7 @@ use std::alloc::Global;
 const MAX_FRAMES: usize = 1_000_000;
 
 fn memory(alloc: Global) -> Result<Memory, Stop> {
-    let mut memory = Memory::new(alloc)?;
+    let mut memory = Memory::new(alloc);
     if memory.add_domain(DOMAIN).is_err() {
         return Err(Stop);
     }
