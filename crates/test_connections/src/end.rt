@@ -35,7 +35,7 @@ impl End {
     /// An end with a domain, a stream in it, and a buffer for a message.
     pub(crate) fn open(alloc: Global, role: Role) -> Result<End, Fail> {
         let mut end = End {
-            endpoint: Endpoint::new(alloc)?,
+            endpoint: Endpoint::new(alloc),
             seen: Seen {
                 is_open: role == Role::Preset,
                 received: 0,

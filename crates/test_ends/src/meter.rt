@@ -38,7 +38,7 @@ pub enum Call {
 
 /// Each call, and whether it allocates.
 pub const CALLS: [(Call, bool); 25] = [
-    (Call::New, true),
+    (Call::New, false),
     (Call::Register, true),
     (Call::Open, true),
     (Call::PostWrite, true),
@@ -48,7 +48,7 @@ pub const CALLS: [(Call, bool); 25] = [
     (Call::Deliver, true),
     (Call::Emit, true),
     (Call::Work, true),
-    (Call::AddDomain, false),
+    (Call::AddDomain, true),
     (Call::Deregister, false),
     (Call::Invalidate, false),
     (Call::Store, false),
@@ -59,7 +59,7 @@ pub const CALLS: [(Call, bool); 25] = [
     (Call::BreakLink, false),
     (Call::Private, false),
     (Call::Local, false),
-    (Call::Share, false),
+    (Call::Share, true),
     (Call::PostShared, true),
     (Call::TakeShared, false),
     (Call::OpenShared, true),

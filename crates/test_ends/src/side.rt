@@ -4,9 +4,10 @@ use crate::meter::{Call, Heap, MOST_TRIES, Meter, Stopped};
 use crate::wire::Wire;
 use bytes::Bytes;
 use iw_endpoint::{
-    Agreed, CallRefusal, Config, Delivery, Emission, Endpoint, EnhancedData, MAX_PLACE,
-    NoSuchStream, Octets, OpenRefusal, OpenSharedRefusal, PoolRefusal, PostRefusal, RecvRefusal,
-    RegisterRefusal, Request, Right, Rights, Role, STREAM_NUMBERS, ShareRefusal, Stag, Step,
+    Agreed, CallRefusal, Config, Delivery, DomainRefusal, Emission, Endpoint, EnhancedData,
+    MAX_PLACE, NoSuchStream, Octets, OpenRefusal, OpenSharedRefusal, PoolRefusal, PostRefusal,
+    RecvRefusal, RegisterRefusal, Request, Right, Rights, Role, STREAM_NUMBERS, ShareRefusal, Stag,
+    Step,
 };
 use iw_events::{
     Act, Options, Seen, Shown, StreamAct, StreamCall, message_in, private_data, shared, standing,
@@ -32,14 +33,10 @@ fn there<T>(answer: Result<T, NoSuchStream>) -> Result<T, Stopped> {
 }
 
 fn endpoint<'h>(meter: &mut Meter<'h>) -> Result<Endpoint<Heap<'h>>, Stopped> {
-    for n in 0..MOST_TRIES {
-        meter.begin(n);
-        if let Ok(endpoint) = Endpoint::new(meter.heap()) {
-            meter.end(Call::New, n)?;
-            return Ok(endpoint);
-        }
-    }
-    Err(Stopped::Endless(Call::New))
+    meter.begin(0);
+    let endpoint = Endpoint::new(meter.heap());
+    meter.end(Call::New, 0)?;
+    Ok(endpoint)
 }
 
 fn see_flushed<'h>(buffer: Octets<Heap<'h>>) -> SeenStep<'h> {
@@ -103,10 +100,19 @@ impl<'h> Side<'h> {
     }
 
     pub(crate) fn add_domain(&mut self, meter: &mut Meter<'h>, pd: u8) -> Answer<'h> {
-        meter.begin(0);
-        let refused = self.endpoint.add_domain(pd).err();
-        meter.end(Call::AddDomain, 0)?;
-        Ok(Act::Domain { pd, refused })
+        for n in 0..MOST_TRIES {
+            meter.begin(n);
+            let added = self.endpoint.add_domain(pd);
+            if added == Err(DomainRefusal::NoMemory) {
+                continue;
+            }
+            meter.end(Call::AddDomain, n)?;
+            return Ok(Act::Domain {
+                pd,
+                refused: added.err(),
+            });
+        }
+        Err(Stopped::Endless(Call::AddDomain))
     }
 
     pub(crate) fn register(

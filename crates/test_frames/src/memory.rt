@@ -1,5 +1,7 @@
 //! A region from its registration to its end, at the end of the tagged offsets.
-use iw_memory::{Deny, InvalidateDeny, Memory, RegisterRefusal, Right, Rights, Stag, StoreRefusal};
+use iw_memory::{
+    Deny, InvalidateDeny, Memory, Peer, RegisterRefusal, Right, Rights, Stag, StoreRefusal,
+};
 use std::alloc::Global;
 use std::test::Fail;
 
@@ -24,7 +26,7 @@ fn registered(
 
 /// A region of 8 octets that ends at the last tagged offset, the first of its domain.
 fn region_at_the_end(alloc: Global) -> Result<(Memory, Stag), Fail> {
-    let mut memory = Memory::new(alloc)?;
+    let mut memory = Memory::new(alloc);
     memory.add_domain(1)?;
     match registered(alloc, &mut memory, u64::MAX - 7)? {
         Ok(number) => Ok((memory, Stag::from(number))),
@@ -34,7 +36,7 @@ fn region_at_the_end(alloc: Global) -> Result<(Memory, Stag), Fail> {
 
 #[test]
 fn a_region_ends_at_the_last_offset_at_most(rt: HostRuntime) -> Result<(), Fail> {
-    let mut memory = Memory::new(rt.alloc())?;
+    let mut memory = Memory::new(rt.alloc());
     assert_eq!(rt; memory.add_domain(1), Ok(()));
     assert_eq!(rt;
         registered(rt.alloc(), &mut memory, u64::MAX - 6)?,
@@ -87,6 +89,58 @@ fn a_region_is_denied_and_ends(rt: HostRuntime) -> Result<(), Fail> {
     );
     assert!(rt; memory.deregister(stag).is_ok());
     assert_eq!(rt; registered(rt.alloc(), &mut memory, 0)?, Ok(0x0100_0001));
+    Ok(())
+}
+
+/// The stream of this number in domain 1.
+fn stream(number: u32) -> Peer {
+    Peer {
+        domain: 1,
+        stream: Some(number),
+    }
+}
+
+/// A region of 8 octets for stream 7 of domain 1 alone.
+fn region_of_stream_7(alloc: Global) -> Result<(Memory, Stag), Fail> {
+    let mut memory = Memory::new(alloc);
+    memory.add_domain(1)?;
+    match memory.register_for(1, 7, 0, vec![in alloc; 0; 8]?, WRITE) {
+        Ok(stag) => Ok((memory, stag)),
+        Err(_) => Err("not registered".into()),
+    }
+}
+
+#[test]
+fn a_region_of_one_stream_is_denied_to_others_and_ends_with_it(
+    rt: HostRuntime,
+) -> Result<(), Fail> {
+    let (mut memory, stag) = region_of_stream_7(rt.alloc())?;
+    assert_eq!(rt;
+        memory.place_for(stream(7), stag, 0, "a".as_bytes(), Right::Write),
+        Ok(())
+    );
+    assert_eq!(rt;
+        memory.check_for(stream(8), stag, 0, 1, Right::Write),
+        Err(Deny::NotAssociated)
+    );
+    assert_eq!(rt;
+        memory.check(1, stag, 0, 1, Right::Write),
+        Err(Deny::NotAssociated)
+    );
+    assert_eq!(rt;
+        memory.invalidate_remote_for(stream(8), stag),
+        Err(InvalidateDeny::NotAssociated)
+    );
+    memory.retire(stream(8));
+    assert_eq!(rt;
+        memory.check_for(stream(7), stag, 0, 1, Right::Write),
+        Ok(())
+    );
+    memory.retire(stream(7));
+    assert_eq!(rt;
+        memory.check_for(stream(7), stag, 0, 1, Right::Write),
+        Err(Deny::Invalid)
+    );
     Ok(())
 }
 

@@ -33,6 +33,25 @@ fn octets_are_read_in_place(rt: HostRuntime) -> Result<(), Fail> {
 }
 
 #[test]
+fn octets_are_read_in_place_past_a_gap(rt: HostRuntime) -> Result<(), Fail> {
+    let mut islands = Islands::new(rt.alloc())?;
+    assert_eq!(rt; islands.add(2, "cd".as_bytes())?, Delivery::Kept);
+    let ready = islands.make_room(3)?;
+    assert!(rt; ready);
+    islands.lend(3).copy_from_slice("efg".as_bytes());
+    assert!(rt; !islands.came_in_place(0, 2));
+    assert!(rt; islands.came_in_place(4, 2));
+    assert_eq!(rt; islands.missing(), 0);
+    assert_eq!(rt; islands.add(0, "ab".as_bytes())?, Delivery::Kept);
+    assert_eq!(rt; islands.missing(), 6);
+    assert_eq!(rt; islands.peek(0), b'a');
+    assert_eq!(rt; islands.peek(3), b'd');
+    assert_eq!(rt; islands.peek(4), b'e');
+    assert_eq!(rt; islands.peek(5), b'f');
+    Ok(())
+}
+
+#[test]
 fn what_came_is_given_up(rt: HostRuntime) -> Result<(), Fail> {
     let mut islands = Islands::new(rt.alloc())?;
     assert_eq!(rt; islands.add(0, "ab".as_bytes())?, Delivery::Kept);

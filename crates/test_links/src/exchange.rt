@@ -138,7 +138,6 @@ fn endless(alloc: Global, row: Row, octets: &[u8]) -> Result<(Report, u32), Fail
         establishment: row.establishment,
     };
     let mut input = Counted::new(Halting::new(octets.chain(Endless::new(0)), 1));
-    let mut buffer = [0u8; 128];
     let report = serve(
         alloc,
         &mut endpoint,
@@ -146,7 +145,6 @@ fn endless(alloc: Global, row: Row, octets: &[u8]) -> Result<(Report, u32), Fail
         region,
         &mut input,
         &mut Vec::new(alloc),
-        &mut buffer,
     );
     match report {
         Ok(report) => Ok((report, input.reads)),

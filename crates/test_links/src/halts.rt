@@ -96,7 +96,6 @@ pub(crate) fn serving(
     octets: &[u8],
     halts: Halts,
 ) -> Result<Outcome, Fail> {
-    let mut buffer = [0u8; 128];
     let (mut endpoint, region) = listener(alloc)?;
     let mut input = halts.reader(octets);
     let mut pen = halts.pen(alloc);
@@ -107,7 +106,6 @@ pub(crate) fn serving(
         region,
         &mut input,
         &mut pen,
-        &mut buffer,
     ) {
         Ok(report) => Ok(concluded(report, input.reads, pen)),
         Err(_) => Err("not opened".into()),
@@ -121,7 +119,6 @@ pub(crate) fn asking(
     octets: &[u8],
     halts: Halts,
 ) -> Result<Outcome, Fail> {
-    let mut buffer = [0u8; 128];
     let mut endpoint = caller(alloc)?;
     let mut input = halts.reader(octets);
     let mut pen = halts.pen(alloc);
@@ -132,7 +129,6 @@ pub(crate) fn asking(
         row.text,
         &mut input,
         &mut pen,
-        &mut buffer,
     ) {
         Ok(report) => Ok(concluded(report, input.reads, pen)),
         Err(_) => Err("not opened".into()),

@@ -1,6 +1,6 @@
 //! Reads at both ends, computed by hand.
 use arrayvec::ArrayVec;
-use iw_memory::{Memory, Rights};
+use iw_memory::{Memory, Peer, Rights};
 use iw_octets::{Fault, MAX_UNANSWERED, ReadRequest, Stag, TaggedHead};
 use iw_reads::{Asked, Reads, Requests, ResponsePart, check_source, fetch};
 use std::alloc::Global;
@@ -69,7 +69,7 @@ fn register(memory: &mut Memory, octets: Vec<u8>) {
 
 // Domain 1 with a region of 120 octets that may be read.
 fn shared(alloc: Global) -> Result<Memory, Fail> {
-    let mut memory = Memory::new(alloc)?;
+    let mut memory = Memory::new(alloc);
     register(&mut memory, Vec::from_elem(alloc, 0x55, 120)?);
     Ok(memory)
 }
@@ -78,7 +78,7 @@ fn take(requests: &mut Requests, memory: &Memory, request: ReadRequest) -> Resul
     if requests.len() >= MAX_UNANSWERED {
         return Err("full".into());
     }
-    check_source(&request, memory, 1)?;
+    check_source(&request, memory, Peer::in_domain(1))?;
     let mut header = ArrayVec::new();
     let _ = header.try_extend_from_slice(&[0x41; 18]);
     requests.take(Asked { header, request });
@@ -90,7 +90,7 @@ fn fetched(requests: &mut Requests, memory: &Memory) -> Result<ResponsePart, Fai
     let Some(part) = requests.next_part(SIZE) else {
         return Err("all is answered".into());
     };
-    let octets = fetch(&part, memory, 1)?;
+    let octets = fetch(&part, memory, Peer::in_domain(1))?;
     if octets.iter().any(|octet| *octet != 0x55) {
         return Err("other octets".into());
     }
@@ -116,7 +116,7 @@ fn the_source_is_checked_at_each_part(rt: HostRuntime) -> Result<(), Fail> {
     let last = part_of(115, 114, 5, true);
     assert!(rt; requests.next_part(SIZE) == Some(last));
     assert!(rt; memory.invalidate(last.stag).is_ok());
-    assert!(rt; fetch(&last, &memory, 1) == Err(Fault::PROTECTION_INVALID_STAG));
+    assert!(rt; fetch(&last, &memory, Peer::in_domain(1)) == Err(Fault::PROTECTION_INVALID_STAG));
     Ok(())
 }
 

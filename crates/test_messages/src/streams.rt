@@ -27,7 +27,7 @@ fn open(alloc: Global, markers: bool, crc: bool) -> Result<Stream, Fail> {
 
 // Domain 1 with a region of eight octets that a peer may write to: its STag is 01000000.
 fn shared(alloc: Global) -> Result<Memory, Fail> {
-    let mut memory = Memory::new(alloc)?;
+    let mut memory = Memory::new(alloc);
     let _ = memory.add_domain(1);
     let _ = memory.register(1, 0, vec![in alloc; 0u8; 8]?, WRITES);
     Ok(memory)
@@ -89,7 +89,7 @@ fn steps(
 
 // The frames of a Write and a Send, emitted after both were posted.
 fn emitted(alloc: Global, stream: &mut Stream) -> Result<Vec<u8>, Fail> {
-    let memory = Memory::new(alloc)?;
+    let memory = Memory::new(alloc);
     let mut wire = Vec::new(alloc);
     let _ = stream.post(write(alloc)?);
     let _ = stream.post(send(alloc)?);
@@ -137,7 +137,7 @@ fn a_write_and_a_send_come_over(rt: HostRuntime) -> Result<(), Fail> {
 
 // The first three steps of a stream to which nothing came.
 fn three_steps(alloc: Global, stream: &mut Stream) -> Result<String, Fail> {
-    let mut memory = Memory::new(alloc)?;
+    let mut memory = Memory::new(alloc);
     let mut told = String::new(alloc);
     steps(stream, &mut memory, 3, &mut told)?;
     Ok(told)

@@ -1,5 +1,5 @@
 //! Placements computed by hand.
-use iw_memory::{Memory, Right, Rights};
+use iw_memory::{Memory, Peer, Right, Rights};
 use iw_octets::{Fault, InPieces, Stag, TaggedHead};
 use iw_tagged::{Placed, check, cut, place};
 use std::alloc::Global;
@@ -25,7 +25,14 @@ fn head_of(stag: u32, to: u64) -> TaggedHead {
 // Places a payload, given in pieces of three octets, on a stream of domain 1.
 fn placed(head: TaggedHead, payload: &[u8], memory: &mut Memory) -> Result<Placed, Fault> {
     let pieces = InPieces::new(payload, 3);
-    place(head, payload.len(), pieces, memory, 1, Right::Write)
+    place(
+        head,
+        payload.len(),
+        pieces,
+        memory,
+        Peer::in_domain(1),
+        Right::Write,
+    )
 }
 
 fn register(memory: &mut Memory, octets: Vec<u8>) {
@@ -35,7 +42,7 @@ fn register(memory: &mut Memory, octets: Vec<u8>) {
 
 // Domain 1 with a region of eight octets, which the peer may write.
 fn shared(alloc: Global) -> Result<Memory, Fail> {
-    let mut memory = Memory::new(alloc)?;
+    let mut memory = Memory::new(alloc);
     register(&mut memory, Vec::from_elem(alloc, 0, 8)?);
     Ok(memory)
 }
@@ -45,7 +52,10 @@ fn a_write_is_placed(rt: HostRuntime) -> Result<(), Fail> {
     let mut memory = shared(rt.alloc())?;
     let head = head_of(0x01000000, 2);
     let stag = head.stag;
-    assert_eq!(rt; check(head, 4, &memory, 1, Right::Write), Ok(()));
+    assert_eq!(rt;
+        check(head, 4, &memory, Peer::in_domain(1), Right::Write),
+        Ok(())
+    );
     assert_eq!(rt;
         placed(head, &[1, 2, 3, 4], &mut memory),
         Ok(Placed { stag, to: 2, n: 4 })

@@ -23,7 +23,7 @@ type Heap<'h> = &'h FailsAt<Global>;
 /// A call that may run out of memory.
 #[derive(Clone, Copy, Debug)]
 enum Call {
-    MemoryNew,
+    MemoryAddDomain,
     MemoryRegister,
     IslandsNew,
     IslandsAdd,
@@ -52,7 +52,7 @@ enum Call {
 }
 
 const CALLS: [Call; 26] = [
-    Call::MemoryNew,
+    Call::MemoryAddDomain,
     Call::MemoryRegister,
     Call::IslandsNew,
     Call::IslandsAdd,
@@ -112,11 +112,12 @@ const LAYOUT: Layout = Layout {
     crc: true,
 };
 
-fn memory_new(heap: Heap<'_>, n: u64) -> Outcome {
+fn memory_add_domain(heap: Heap<'_>, n: u64) -> Outcome {
+    let mut memory = Memory::new(heap);
     heap.refuse_after(n);
-    let is_made = Memory::new(heap).is_ok();
+    let is_made = memory.add_domain(1).is_ok();
     let is_refused = heap.has_refused();
-    judge(is_made, is_refused, Memory::new(heap).is_ok())
+    judge(is_made, is_refused, memory.add_domain(1).is_ok())
 }
 
 // Registers octets, and gets them back if they are not taken.
@@ -147,7 +148,7 @@ fn try_register<'h>(
 
 fn memory_register(heap: Heap<'_>, n: u64) -> Result<Outcome, AllocError> {
     let mut handed = octets(heap)?;
-    let mut memory = Memory::new(heap)?;
+    let mut memory = Memory::new(heap);
     let _ = memory.add_domain(1);
     Ok(try_register(heap, n, &mut memory, &mut handed))
 }
@@ -476,7 +477,7 @@ fn stream_emit<'h>(
     n: u64,
     stream: &mut Stream<Heap<'h>>,
 ) -> Result<Outcome, AllocError> {
-    let memory = Memory::new(heap)?;
+    let memory = Memory::new(heap);
     Ok(try_emit(heap, n, stream, &memory))
 }
 
@@ -538,7 +539,7 @@ fn try_work<'h>(
 // Domain 1 with a region of six octets.
 fn shared<'h>(heap: Heap<'h>) -> Result<Memory<Heap<'h>>, AllocError> {
     let mut handed = octets(heap)?;
-    let mut memory = Memory::new(heap)?;
+    let mut memory = Memory::new(heap);
     let _ = memory.add_domain(1);
     registers(&mut memory, &mut handed);
     Ok(memory)
@@ -637,7 +638,7 @@ fn replay_all(heap: Heap<'_>, n: u64) -> Outcome {
 
 fn attempt(heap: Heap<'_>, call: Call, n: u64) -> Result<Outcome, AllocError> {
     match call {
-        Call::MemoryNew => Ok(memory_new(heap, n)),
+        Call::MemoryAddDomain => Ok(memory_add_domain(heap, n)),
         Call::MemoryRegister => memory_register(heap, n),
         Call::IslandsNew => Ok(islands_new(heap, n)),
         Call::IslandsAdd => islands_add(heap, n),

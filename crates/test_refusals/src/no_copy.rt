@@ -75,7 +75,7 @@ fn emit_all<'h>(
 
 // Their frames have 512 octets each, with the marker before them.
 fn frames<'h>(heap: Heap<'h>, wire: &mut Vec<u8, Heap<'h>>) -> Result<(), Fail> {
-    let memory = Memory::new(heap)?;
+    let memory = Memory::new(heap);
     let mut stream = opened(heap)?;
     emit_all(heap, &mut stream, &memory, wire)
 }
@@ -87,7 +87,7 @@ fn register<'h>(memory: &mut Memory<Heap<'h>>, octets: Vec<u8, Heap<'h>>) {
 
 // Domain 1 with a region.
 fn shared<'h>(heap: Heap<'h>) -> Result<Memory<Heap<'h>>, Fail> {
-    let mut memory = Memory::new(heap)?;
+    let mut memory = Memory::new(heap);
     register(&mut memory, vec![in heap; 0u8; PAYLOAD + 4]?);
     Ok(memory)
 }

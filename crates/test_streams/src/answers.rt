@@ -1,6 +1,10 @@
 //! What calls answer, as words.
 
-use iw_endpoint::{CallRefusal, NotAtRest, OpenNextRefusal, OpenRefusal, OpenSharedRefusal};
+use iw_endpoint::{
+    CallRefusal, LimitRefusal, NotAtRest, OpenNextRefusal, OpenRefusal, OpenSharedRefusal,
+    RegisterRefusal, Stag,
+};
+use std::alloc::Allocator;
 
 /// What a call answers: a number, or a word.
 #[derive(Clone, Copy)]
@@ -47,6 +51,35 @@ fn next_word(refusal: OpenNextRefusal) -> &'static str {
         OpenNextRefusal::NumbersSpent => "NumbersSpent",
         OpenNextRefusal::PrivateTooLong => "PrivateTooLong",
         OpenNextRefusal::NoMemory => "NoMemory",
+    }
+}
+
+fn register_word(refusal: RegisterRefusal) -> &'static str {
+    match refusal {
+        RegisterRefusal::NoDomain => "NoDomain",
+        RegisterRefusal::DomainFull => "DomainFull",
+        RegisterRefusal::TooLong => "TooLong",
+        RegisterRefusal::BaseWrap => "BaseWrap",
+        RegisterRefusal::NoMemory => "NoMemory",
+    }
+}
+
+fn limit_word(refusal: CallRefusal<LimitRefusal>) -> &'static str {
+    match refusal {
+        CallRefusal::NoSuchStream => "NoSuchStream",
+        CallRefusal::Refused(LimitRefusal::Ended) => "Ended",
+        CallRefusal::Refused(LimitRefusal::Refused(refusal)) => register_word(refusal),
+    }
+}
+
+/// Of a registration of eight octets for one stream.
+pub(crate) fn limited<A: Allocator>(
+    outcome: Result<Stag, (CallRefusal<LimitRefusal>, Vec<u8, A>)>,
+) -> Answer {
+    match outcome {
+        Ok(_) => Answer::Word("ok"),
+        Err((refusal, octets)) if octets.len() == 8 => Answer::Word(limit_word(refusal)),
+        Err(_) => Answer::Word("other octets"),
     }
 }
 

@@ -1,11 +1,15 @@
 //! Tests of streams without end, over the public interface of `iw_endpoint`: which number each is given, what is answered
-//! once it was closed, and that an opening which is refused memory changes nothing.
+//! once it was closed, which regions are its own, and that a call which is refused memory changes nothing.
 #![tactic(auto)]
 
 #[cfg(test)]
 mod answers;
 #[cfg(test)]
 mod calls;
+#[cfg(test)]
+mod ends;
+#[cfg(test)]
+mod limited;
 #[cfg(test)]
 mod numbers;
 #[cfg(test)]

@@ -1,0 +1,128 @@
+//! Regions that are limited to one stream: who may use them, until when, and registrations that are refused.
+
+use crate::calls::Heap;
+use crate::ends::Ends;
+use std::alloc::Global;
+use std::test::Fail;
+use test_support::FailsAt;
+
+// Calls, each with a number and its answer. What the peers do, they do with a region that is limited to stream 0. The
+// streams 1 to 7 are of its domain, and 8 to 15 of another.
+const APART: &str = "register_for 0 ok
+bound 0 0
+write 1 1,1,2
+read 2 0,1,3
+invalidate 3 0,1,3
+write 8 1,1,2
+read 9 0,1,3
+invalidate 10 0,1,3
+octets 0 zeros
+bound 0 0
+write 0 placed
+octets 0 written
+read_octets 0 zeros
+read 0 placed
+read_octets 0 written
+invalidate 0 received
+bound 0 invalid
+octets 0 written
+write 1 idle
+write 4 1,1,2
+write 0 1,1,0";
+
+// The stream is closed.
+const CLOSED: &str = "register_for 0 ok
+write 0 placed
+break_link 0 ok
+bound 0 0
+close 0 ok
+bound 0 invalid
+octets 0 written
+write 1 1,1,2
+read 2 0,1,3
+deregister 0 ok
+bound 0 none
+register_for 4 ok
+bound 0 none";
+
+// `register_past_the_end` is a registration whose tagged offsets wrap. The stream 16 was not opened, and 5 ends.
+const REFUSED: &str = "register_for 16 NoSuchStream
+register_past_the_end 16 NoSuchStream
+break_link 5 ok
+register_for 5 Ended
+register_past_the_end 5 Ended
+close 5 ok
+register_for 5 NoSuchStream
+register_past_the_end 5 NoSuchStream
+register_past_the_end 0 BaseWrap
+bound 0 none
+register_for 0 ok
+bound 0 0";
+
+// Makes the call of a line, and says whether it answered so.
+fn answers(ends: &mut Ends<'_>, line: &str) -> Result<bool, Fail> {
+    let (call, rest) = line.split_once(' ').ok_or("a call")?;
+    let (number, answer) = rest.split_once(' ').ok_or("an answer")?;
+    let number = number.parse::<u32>().ok().ok_or("a number")?;
+    Ok(ends.call(call, number)?.is_told(answer))
+}
+
+// Makes the calls at a new endpoint. Returns how many answered so, before one did not.
+fn answered(alloc: Global, lines: &str) -> Result<usize, Fail> {
+    let heap = FailsAt::new(alloc, u64::MAX);
+    let mut ends = Ends::new(&heap)?;
+    for (n, line) in lines.lines().enumerate() {
+        if !answers(&mut ends, line)? {
+            return Ok(n);
+        }
+    }
+    Ok(lines.lines().count())
+}
+
+// Refuses each request for memory of the call in turn, until none is refused. Returns how many were.
+fn registered(ends: &mut Ends<'_>, heap: Heap<'_>) -> Result<u64, Fail> {
+    for n in 0..100u64 {
+        let answer = ends.register_for(0, 0, n)?;
+        if !heap.has_refused() {
+            return if answer.is_told("ok") {
+                Ok(n)
+            } else {
+                Err("it was refused".into())
+            };
+        }
+        if !answer.is_told("NoMemory") || !ends.call("bound", 0)?.is_told("none") {
+            return Err("a region was registered".into());
+        }
+    }
+    Err("requests without end".into())
+}
+
+fn refused(alloc: Global) -> Result<u64, Fail> {
+    let heap = FailsAt::new(alloc, u64::MAX);
+    let mut ends = Ends::new(&heap)?;
+    registered(&mut ends, &heap)
+}
+
+#[test]
+fn another_stream_is_answered_as_another_domain(rt: HostRuntime) -> Result<(), Fail> {
+    assert_eq!(rt; answered(rt.alloc(), APART)?, APART.lines().count());
+    Ok(())
+}
+
+#[test]
+fn a_closed_stream_loses_its_regions(rt: HostRuntime) -> Result<(), Fail> {
+    assert_eq!(rt; answered(rt.alloc(), CLOSED)?, CLOSED.lines().count());
+    Ok(())
+}
+
+#[test]
+fn refusals_come_in_order(rt: HostRuntime) -> Result<(), Fail> {
+    assert_eq!(rt; answered(rt.alloc(), REFUSED)?, REFUSED.lines().count());
+    Ok(())
+}
+
+#[test]
+fn a_registration_without_memory_changes_nothing(rt: HostRuntime) -> Result<(), Fail> {
+    assert!(rt; refused(rt.alloc())? > 0);
+    Ok(())
+}
