@@ -170,6 +170,14 @@ static void call_memory(struct iwarp *handle, struct iwarp_buffer *buffer) {
     }
 }
 
+/* A stream was opened under the number that is told, or none was and none is told. */
+static void opened(int32_t code, const uint32_t *number) {
+    if (answered(code))
+        streams[below(4)] = *number;
+    else
+        CHECK(*number == MARK);
+}
+
 /* Streams and pools. */
 static void call_stream(struct iwarp *handle, struct iwarp_buffer *buffer) {
     uint32_t stream = any_stream(), pd = any_domain(), found = MARK, agreed = MARK, life = MARK, number = MARK;
@@ -179,16 +187,10 @@ static void call_stream(struct iwarp *handle, struct iwarp_buffer *buffer) {
     size_t had = has(buffer, &at);
     switch (below(17)) {
     case 14:
-        if (answered(iwarp_open_next(handle, pd, below(3), any_bits(15), given, below(600), &number)))
-            streams[below(4)] = number;
-        else
-            CHECK(number == MARK);
+        opened(iwarp_open_next(handle, pd, below(3), any_bits(15), given, below(600), &number), &number);
         return;
     case 15:
-        if (answered(iwarp_open_shared_next(handle, pd, below(3), any_bits(15), given, below(600), &number)))
-            streams[below(4)] = number;
-        else
-            CHECK(number == MARK);
+        opened(iwarp_open_shared_next(handle, pd, below(3), any_bits(15), given, below(600), &number), &number);
         return;
     case 16:
         answered(iwarp_close(handle, stream));
