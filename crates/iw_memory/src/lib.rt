@@ -7,7 +7,8 @@
 //! `check` says whether a peer may use the part that an STag, a tagged offset and a length name; `part` and `part_mut`
 //! lend it. The region must be valid, of the stream's domain, and long enough, and must grant the [`Right`]; otherwise a
 //! [`Deny`] says why not. A region may be limited to one stream of its domain (`register_for`): the calls that take a
-//! [`Peer`] (`check_for`, `part_for` and others) know the stream, and `retire` ends the use of its regions. Only `add_domain` and `register` take memory.
+//! [`Peer`] (`check_for`, `part_for` and others) know the stream, and `retire` ends the use of its regions. Only
+//! `add_domain`, `register` and `register_for` take memory.
 #![tactic(auto)]
 
 mod laws;

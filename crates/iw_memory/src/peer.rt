@@ -6,7 +6,7 @@ ghost use Rattle.iw_memory.specs.Region.{in_domain};
 pub struct Peer {
     /// The protection domain of the stream.
     pub domain: u8,
-    /// The stream's number in its domain. No region is limited to a stream that has none.
+    /// The stream's number at its endpoint. No region is limited to a stream that has none.
     pub stream: Option<u32>,
 }
 
