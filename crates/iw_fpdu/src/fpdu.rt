@@ -66,6 +66,10 @@ pub fn all_came<A: Allocator>(islands: &Islands<A>, base: u64, from: u64, to: u6
     if end <= missing {
         return true;
     }
+    // A part of a frame came, as most often if it is not whole.
+    if end > islands.end() {
+        return false;
+    }
     islands.came(base + from, end)
 }
 

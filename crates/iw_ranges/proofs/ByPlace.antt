@@ -19,7 +19,7 @@ below a p h = let t : nat_lt p a.floor ≡ true = grind (arith, nat_tests) in ap
 pub beyond : (a : Arrived) (p : ℕ) → a.floor ≤ p → cell_at a p ≡ get_or a.cells (p - a.floor) Missing
 beyond a p h = let t : nat_lt p a.floor ≡ false = grind (arith, nat_tests) in ap (λ b. cond b Gone (get_or a.cells (p - a.floor) Missing)) t
 
-past : (a : Arrived) (p : ℕ) → end_of a ≤ p → cell_at a p ≡ Missing
+pub past : (a : Arrived) (p : ℕ) → end_of a ≤ p → cell_at a p ≡ Missing
 past a p h = beyond a p (omega arith) ∙ get_or_past a.cells (p - a.floor) Missing (omega arith)
 
 -- where the cells are those of f, those before the in-order point are Gone and those from `end` on Missing
