@@ -4,7 +4,7 @@ use Rattle.std.proofs.lemmas.Bool.{cases_lt}
 use Rattle.std.specs.Prelude.{MatchOption, min, max}
 use Rattle.std.specs.List.{Contains}
 use Rattle.iw_ranges.specs.Arrived.{has_come, IsWithinLimits}
-use Rattle.iw_fpdu.specs.Places.{IsStart, data_place, data_index}
+use Rattle.iw_fpdu.specs.Places.{IsStart, data_place, data_index, span_start}
 use Rattle.iw_fpdu.specs.Frame.{frame_end}
 use Rattle.iw_fpdu.specs.Reading.{length_at}
 use Rattle.iw_fpdu.proofs.Octets.{span_low, span_near, field_end, length_within}
@@ -18,6 +18,7 @@ use Rattle.iw_locate.specs.Free.{Scene, point_of, octet_of, end_of, IsMarkerSeen
 use Rattle.iw_locate.specs.Next.{frame_at, CanBeEarly, IsFrontWhole, IsLowest, IsNext, IsNone}
 use Rattle.iw_locate.specs.Among.{IsWithin, IsFoundWithin, IsLowestAmong}
 use Rattle.iw_locate.specs.Unsearched.{IsTouched, Tells, IsFollowed, IsLeftBy, only_from, from_low}
+use Rattle.iw_locate.proofs.Front.{not_open_low}
 use Rattle.iw_locate.proofs.Open.{start_high, two_octets, come_low, not_open_far, not_open_before, not_seen_far}
 use Rattle.iw_locate.proofs.Lowest.{points_low, IsPointedAt}
 
@@ -175,13 +176,16 @@ module _ {T : Type 0} (v : Scene T) (can : CanLocate v) (m : v.layout.markers �
             record { low = omega (arith, first s free.open_ clip, under); high = omega (arith, touched_low (max u.from (point_of v)) (min u.to (point_of v + 262144)) s clip, over) }
       ])
 
-  -- none begins before the in-order point
-  pub from_point : (u : Unsearched) (low : ℕ) → Tells v u → u.to ≡ 0 → low ≤ max u.low (point_of v) → Tells v (only_from u low u.high)
+  -- none begins at the in-order point or before it
+  pub from_point : (u : Unsearched) (low : ℕ) → Tells v u → u.to ≡ 0 → low ≤ max u.low (point_of v + 1) → Tells v (only_from u low u.high)
   from_point u low tells none near =
       tells_only u low u.high tells
       (λ s free.
       let within = within_only u tells none s free in
-      record { low = omega (arith, near, within.low, free.open_.past, span_low v.layout.markers s); high = within.high })
+      elim (cases_lt (point_of v) (span_start true s)) [
+        | inl past ↦ record { low = omega (arith, near, within.low, past, span_low true s); high = within.high }
+        | inr here ↦ absurd (not_open_low v can m s here free.open_)
+      ])
 
   -- what a search tells
   pub found_none : (u : Unsearched) → Tells v u → u.to ≡ 0 → ((s : ℕ) → IsFoundWithin v u.low u.high s → IsOpen v s → ⊥) → (s : ℕ) → IsFree v s → ⊥

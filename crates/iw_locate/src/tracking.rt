@@ -101,7 +101,7 @@ impl Locator {
         ensures high { result.high ≤ 2 ^ 63 }
     {
         let taken = self.taken_in(islands, judged, point, unsearched);
-        let mut left = only_from(taken, taken.low.max(point), taken.high);
+        let mut left = only_from(taken, taken.low.max(point + 1), taken.high);
         left.pass_judged(judged);
         left
     }
