@@ -564,6 +564,33 @@ keeps_judged s table found after x running n ok placing there over k =
       awaited = k.awaited;
     }
 
+-- one that was placed, before its turn, as if it was placed there
+pub keeps_fronted : (s : StreamState) (frame : PlacedFrame) → is_open s.start ≡ true → IsPlaced s frame → NoneReachesOver s frame → Keeps s → Keeps (record s { front = Some frame })
+keeps_fronted s frame running p over k =
+    let has = p.stands in record {
+      started = record {
+        unopened = λ e. absurd (true≢false (sym running ∙ e));
+        unsent = k.started.unsent;
+        alone = k.started.alone;
+        unread = k.started.unread;
+        beyond = k.started.beyond;
+      };
+      between = k.between;
+      aligned = k.aligned;
+      enough = k.enough;
+      few = k.few;
+      is_placed = λ e. record {
+        stands = record { begins = has.begins; low = has.low; whole = has.whole; header = has.header; on = has.on; near = has.near; come = has.come; next = has.next };
+        room = p.room;
+      };
+      clear = λ e. over;
+      headed = k.headed;
+      buffered = k.buffered;
+      unopened = k.unopened;
+      first = k.first;
+      awaited = k.awaited;
+    }
+
 -- what may be judged before its turn is placed, if it passes
 pub early_placing : (at : Standing) (head : Head) (n : ℕ) (x : Landing) → is_early head ≡ true → place_verdict at head n ≡ Ok x → IsPlacing x
 early_placing at (heads.Write head) n x early e = subst IsPlacing (passes _ _ _ e).1 tt

@@ -1,13 +1,20 @@
 -- What a Terminate takes of the segment that had the fault is there.
-use Rattle.std.proofs.Common.{◌≡◌, ℕ, ◌+◌, Bool, true, false, nat_le, nat_lt, if◌then◌else◌, List, length, take, Option, Some, None, Ok, Err, refl, sym, ap, ◌∙◌, subst, arith}
-use Rattle.std.specs.Prelude.{Result, IfSome, ◌==◌, ◌&&◌, is_none, unwrap_or}
+use Rattle.std.proofs.Common.{◌≡◌, ℕ, ◌+◌, Bool, true, false, nat_le, nat_lt, if◌then◌else◌, List, [], ◌∷◌, length, take, Option, Some, None, Ok, Err, refl, sym, ap, ◌∙◌, subst, arith}
+use Rattle.std.specs.Prelude.{Result, IfSome, not, ◌==◌, ◌&&◌, is_none, unwrap_or}
 use Rattle.std.proofs.lemmas.Bool.{true≢false}
 use Rattle.std.specs.Option.{option_map, option_map_or}
 use Rattle.std.proofs.lemmas.List.{length-take}
 use Rattle.iw_octets.specs.declared.fault.Fault.{Fault}
 use Rattle.iw_octets.specs.declared.fault.TheConstants.Fault as faults
+use Rattle.iw_octets.specs.declared.head.TaggedHead.{TaggedHead}
+use Rattle.iw_octets.specs.declared.segment.Segment.{Segment}
+use Rattle.iw_octets.specs.declared.segment.Segment.TheVariants.{Tagged, Untagged}
+use Rattle.iw_octets.specs.declared.stag.Stag.{Stag}
 use Rattle.iw_octets.specs.Segment.{read_segment}
-use Rattle.iw_memory.specs.Table.{Table}
+use Rattle.iw_memory.specs.declared.peer.Peer.{Peer}
+use Rattle.iw_memory.specs.declared.refusal.InvalidateDeny.{InvalidateDeny}
+use Rattle.iw_memory.specs.declared.refusal.InvalidateDeny.TheVariants as denials
+use Rattle.iw_memory.specs.Table.{Table, invalidate_denial_for}
 use Rattle.iw_memory.specs.declared.refusal.Deny.{Deny}
 use Rattle.iw_memory.specs.declared.refusal.Deny.TheVariants.{NotAssociated, Invalid, ToWrap, Bounds, Rights}
 use Rattle.iw_fpdu.specs.declared.fpdu.Mismatch.{Mismatch}
@@ -18,13 +25,16 @@ use Rattle.iw_rdmap.specs.declared.head.Head.TheVariants as heads
 use Rattle.iw_rdmap.specs.Judging.{IsFront, judged}
 use Rattle.iw_rdmap.specs.Terminate.{FitsFault, HasCause, has_segment}
 use Rattle.iw_rdmap.proofs.Causes.{IsSound, sound}
-use Rattle.iw_reads.specs.Outstanding.{is_asked, sink_fault}
+use Rattle.iw_reads.specs.declared.reads.Outstanding.{Outstanding}
+use Rattle.iw_reads.specs.Outstanding.{is_asked, sink_fault, goes_on, response_turn_fault, finished_read}
 use Rattle.iw_reads.specs.Requests.{Requested}
 use Rattle.iw_reads.specs.Source as source
 use Rattle.iw_tagged.specs.Placing as placing
-use Rattle.iw_untagged.specs.Receiving.{ahead_of, buffer_for, room_fault}
+use Rattle.iw_untagged.specs.Receiving.{Receiving, ahead_of, buffer_for, oldest, received, room_fault, turn_fault}
+use Rattle.iw_stream.specs.declared.judging.Turning.{Turning}
+use Rattle.iw_stream.specs.declared.judging.Turning.TheVariants as turnings
 use Rattle.iw_stream.specs.Frames.{Frame, frame_by, payload_of}
-use Rattle.iw_stream.specs.Judging.{Standing, mismatch_fault, or_else, fault_or, judged_head, place_verdict, head_verdict, segment_verdict, verdict}
+use Rattle.iw_stream.specs.Judging.{Standing, mismatch_fault, or_else, fault_or, judged_head, place_verdict, head_verdict, segment_verdict, verdict, is_response, answering_by, send_turning, invalidate_fault, invalidation_fault, segment_turn, turned_by}
 use Rattle.iw_stream.specs.Stream.{StreamState, ends_by}
 use Rattle.iw_stream.specs.Terminating.{asks, is_request_of, terminate_judged}
 use Rattle.iw_stream.specs.Work.{Judge, Rest, next_frame, standing, after_judging, left_by}
@@ -82,6 +92,61 @@ fits_placing at (heads.Send head) n fault e =
     fits_err _ _ fault (fits_room (ahead_of at.receiving.due head.msn) (option_map length (buffer_for at.receiving.source (ahead_of at.receiving.due head.msn))) (head.mo + n)) e
 fits_placing at (heads.Request head request) n fault e = fits_err _ _ fault (fits_source _) e
 fits_placing at (heads.Terminate head word) n fault e = absurd (let no : ⊥ = cc in no)
+
+-- ---- so does that of a turn
+fits_turn : (far late : Bool) → Fits (if far then Some faults.UNTAGGED_MSN_RANGE else if late then Some faults.UNTAGGED_INVALID_OFFSET else None)
+fits_turn true late = record { layer = omega arith; kind = omega arith }
+fits_turn false true = record { layer = omega arith; kind = omega arith }
+fits_turn false false = tt
+
+fits_denied : (o : Option InvalidateDeny) → Fits (option_map invalidate_fault o)
+fits_denied None = tt
+fits_denied (Some denials.NotAssociated) = record { layer = omega arith; kind = omega arith }
+fits_denied (Some denials.Invalid) = record { layer = omega arith; kind = omega arith }
+fits_denied (Some denials.NotAllowed) = record { layer = omega arith; kind = omega arith }
+
+fits_invalidation : (table : Table) (peer : Peer) (turning : Turning) → Fits (invalidation_fault table peer turning)
+fits_invalidation table peer turnings.Passed = tt
+fits_invalidation table peer (turnings.Completed solicited None) = tt
+fits_invalidation table peer (turnings.Completed solicited (Some stag)) = fits_denied (invalidate_denial_for table peer stag)
+fits_invalidation table peer (turnings.Answered ticket) = tt
+
+fits_response : (goes : Bool) → Fits (if goes then None else Some faults.PROTECTION_BOUNDS)
+fits_response true = tt
+fits_response false = record { layer = omega arith; kind = omega arith }
+
+fits_reads : (reads : List Outstanding) (head : TaggedHead) (n : ℕ) → Fits (response_turn_fault reads head n)
+fits_reads [] head n = record { layer = omega arith; kind = omega arith }
+fits_reads (read ∷ reads) head n = fits_response (goes_on read head n)
+
+fits_tagged_turn : (response : Bool) (o : Option Fault) (turning : Turning) (fault : Fault) → Fits o → (if response then fault_or o turning else Ok turnings.Passed) ≡ Err fault → FitsFault fault
+fits_tagged_turn true o turning fault f e = fits_err o turning fault f e
+fits_tagged_turn false o turning fault f e = absurd (let no : ⊥ = cc in no)
+
+pub turned_fits : (table : Table) (peer : Peer) (r : Receiving) (reads : List Outstanding) (n : ℕ) (segment : Option (Segment (List ℕ))) (fault : Fault)
+    → segment_turn table peer r reads n segment ≡ Err fault → FitsFault fault
+turned_fits table peer r reads n None fault e =
+    subst FitsFault (let same : faults.SEGMENT_SHORT ≡ fault = cc in same) (record { layer = omega arith; kind = omega arith })
+turned_fits table peer r reads n (Some (Tagged head payload)) fault e =
+    fits_tagged_turn (is_response head) (response_turn_fault reads head n) (answering_by (finished_read reads head)) fault (fits_reads reads head n) e
+turned_fits table peer r reads n (Some (Untagged head payload)) fault e =
+    fits_err _ _ fault (fits_either (turn_fault r head.msn head.mo) _ (fits_turn (not (ahead_of r.due head.msn == 0)) (not (head.mo == r.turned)))
+    (fits_invalidation table peer (send_turning head))) e
+
+-- ---- a message is complete by the turn of its last segment
+no_message : (response : Bool) (o : Option Fault) (finished : Option ℕ) (solicited : Bool) (invalidate : Option Stag)
+    → (if response then fault_or o (answering_by finished) else Ok turnings.Passed) ≡ Ok (turnings.Completed solicited invalidate) → ⊥
+no_message true None None solicited invalidate e = cc
+no_message true None (Some ticket) solicited invalidate e = cc
+no_message true (Some fault) finished solicited invalidate e = cc
+no_message false o finished solicited invalidate e = cc
+
+pub received_whole : (table : Table) (peer : Peer) (r : Receiving) (reads : List Outstanding) (n : ℕ) (segment : Option (Segment (List ℕ))) (solicited : Bool) (invalidate : Option Stag)
+    → segment_turn table peer r reads n segment ≡ Ok (turnings.Completed solicited invalidate) → received (turned_by r n segment) ≡ record { msn = r.due; buffer = oldest r; len = r.turned + n }
+received_whole table peer r reads n None solicited invalidate e = absurd (let no : ⊥ = cc in no)
+received_whole table peer r reads n (Some (Tagged head payload)) solicited invalidate e =
+    absurd (no_message (is_response head) (response_turn_fault reads head n) (finished_read reads head) solicited invalidate e)
+received_whole table peer r reads n (Some (Untagged head payload)) solicited invalidate e = refl
 
 -- ---- a frame that failed a check
 pub record IsCaused (asked : Requested) (u : List ℕ) (fault : Fault) : Type 0 where

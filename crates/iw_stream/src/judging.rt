@@ -1,5 +1,5 @@
 ghost use Rattle.std.specs.Prelude.{◌≡◌, ◌-◌, ◌≤◌, ◌++◌, if◌then◌else◌, ℕ, List, [], take, drop, length, slice_index};
-ghost use Rattle.std.specs.Prelude.{true, Some, None, IfOk, IfSome, OnOk, OnErr};
+ghost use Rattle.std.specs.Prelude.{true, Some, None, Ok, IfOk, IfSome, IfNone, OnSome, OnOk, OnErr};
 ghost use Rattle.iw_octets.specs.Head.{is_tagged};
 ghost use Rattle.iw_octets.specs.Segment.{read_segment};
 ghost use Rattle.iw_memory.specs.Table.{Table, put};
@@ -11,7 +11,7 @@ ghost use Rattle.iw_reads.specs.Outstanding.{sink_fault};
 ghost use Rattle.iw_reads.specs.Requests.{Requested};
 ghost use Rattle.iw_reads.specs.Source.{source_fault};
 ghost use Rattle.iw_tagged.specs.Placing.{placing_fault};
-ghost use Rattle.iw_untagged.specs.Receiving.{Receiving, buffer_fault};
+ghost use Rattle.iw_untagged.specs.Receiving.{Receiving, buffer_fault, written};
 ghost use Rattle.iw_stream.specs.Frames.{frame_by, payload_of, placed, header_in, payload_len};
 ghost use Rattle.iw_stream.specs.Judging.{Standing, IsFirst, as_tagged, right_of, is_response};
 ghost use Rattle.iw_stream.specs.Judging.{mismatch_fault, fault_or, write_verdict, response_verdict};
@@ -48,6 +48,13 @@ pub enum Landing {
     Terminate(Fault),
 }
 
+/// Where a Send's payload went: `len` octets of message `msn`, from its octet `mo` on.
+pub(crate) struct Buffered {
+    pub(crate) msn: u32,
+    pub(crate) mo: u32,
+    pub(crate) len: usize,
+}
+
 /// What the turn of a frame comes to.
 #[derive(Clone, Copy, Debug, PartialEq, Eq)]
 pub enum Turning {
@@ -75,17 +82,6 @@ pub struct PlacedFrame {
 }
 
 impl PlacedFrame {
-    /// The same.
-    pub(crate) fn copied(&self) -> PlacedFrame
-        ensures { result ≡ self.now }
-    {
-        PlacedFrame {
-            header: copy_of(&self.header),
-            start: self.start,
-            len: self.len,
-        }
-    }
-
     /// How many octets the segment's payload has.
     #[inline(always)]
     pub(crate) fn payload_len(&self) -> usize
@@ -317,6 +313,7 @@ fn place_response<A: Allocator, B: Allocator>(
 }
 
 // Places the payload of an untagged segment. An `Err` changes nothing.
+#[inline(always)]
 fn place_send<A: Allocator, B: Allocator>(
     head: UntaggedHead,
     fpdu: &Fpdu<'_, A>,
@@ -600,6 +597,62 @@ pub(crate) fn keep_frame<A: Allocator>(
         len: fpdu.len() as u16,
     });
     keep_header(&mut frame.header, fpdu);
+}
+
+// Keeps what is kept of a frame that was placed, in place of what was kept before. The frame begins at frame place `start`, and
+// its header is judged by these octets.
+#[inline(always)]
+fn keep_first<A: Allocator>(
+    kept: &mut Option<PlacedFrame>,
+    fpdu: &Fpdu<'_, A>,
+    first: &[u8],
+    start: u64,
+)
+    requires start { start ≡ fpdu.now.start }
+    requires first { IsFirst (ulpdu fpdu.now) first.now }
+    ensures { kept.new ≡ Some (placed (frame_by fpdu.now)) }
+{
+    let frame = kept.insert(PlacedFrame {
+        header: ArrayVec::new(),
+        start,
+        len: fpdu.len() as u16,
+    });
+    append_header(&mut frame.header, first);
+}
+
+/// Judges a whole frame. If it is a Send's that passes its checks, its payload is placed, and what is kept of the frame takes
+/// the place of what was kept before; the frame begins at frame place `start`. Otherwise nothing changes: it is another frame,
+/// or at fault, or a marker stands among the octets that its header is judged by.
+///
+/// The frame is moved here: if it were lent, its caller would keep it in memory on every way.
+#[inline(never)]
+pub(crate) fn land_send<A: Allocator, B: Allocator>(
+    kept: &mut Option<PlacedFrame>,
+    fpdu: Fpdu<'_, A>,
+    start: u64,
+    asked: &Requests,
+    receiving: &mut RecvQueue<B>,
+) -> Option<Buffered>
+    requires holds { HoldsSpan fpdu }
+    requires start { start ≡ fpdu.start }
+    ensures landed { (at : Standing) → at.receiving ≡ receiving.old → at.asked ≡ asked.now
+        → IfSome result (λ to. verdict at (frame_by fpdu.entry) ≡ Ok (Landing.Send to.msn to.mo to.len)) }
+    ensures receiving { IfSome result (λ to. receiving.new ≡ written receiving.old to.msn to.mo (payload_of (read_segment (ulpdu fpdu.entry)))) }
+    ensures kept { OnSome result (kept.new ≡ Some (placed (frame_by fpdu.entry))) }
+    ensures none { IfNone result ((kept.new ≡ kept.old) × (receiving.new ≡ receiving.old)) }
+{
+    let Ok(()) = fpdu.check() else {
+        return None;
+    };
+    let first = first_piece(&fpdu)?;
+    let Ok(Head::Send(head)) = judge(first, fpdu.len() as u16, asked.next_msn(), asked.len()) else {
+        return None;
+    };
+    let Ok(Landing::Send { msn, mo, len }) = place_send(head, &fpdu, receiving) else {
+        return None;
+    };
+    keep_first(kept, &fpdu, first, start);
+    Some(Buffered { msn, mo, len })
 }
 
 /// Keeps what is kept of a tagged frame that was placed, in place of what was kept before. The frame begins at frame place

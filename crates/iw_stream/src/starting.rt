@@ -36,10 +36,10 @@ pub(crate) struct Start {
     expecting: Layout,
     // The RTR that this end sends first.
     rtr: Option<Rtr>,
-    // How many Reads of this end are outstanding at most.
-    most_reads: usize,
     // The peer's start-up frame was read.
     heard: bool,
+    // How many Reads of this end are outstanding at most.
+    most_reads: usize,
     // The exchange of start-up frames, if the stream begins with one.
     frames: Option<Startup>,
 }

@@ -36,7 +36,7 @@ use std::alloc::{AllocError, Allocator, Global};
 use std::marker::Model;
 
 // The ULPDU size of a stream for which none was set, in octets.
-const FIRST_MULPDU: usize = 1400;
+const FIRST_MULPDU: u16 = 1400;
 
 const MIN_MULPDU: u32 = 128;
 
@@ -49,22 +49,24 @@ pub struct Stream<A: Allocator = Global> {
     arrived: Incoming<A>,
     // The frame at the in-order point, once it was placed.
     front: Option<PlacedFrame>,
-    ending: Ending,
+    // What each step and each frame looks at stands together.
     domain: u8,
-    // The stream's number in its domain, if it was given one.
+    // Whether octets were delivered, and kept or dropped.
+    answered: bool,
+    mulpdu: u16,
+    // The sequence number of the peer's first octet.
+    first: u32,
+    // The stream's number at its endpoint, if it was given one.
     number: Option<u32>,
-    mulpdu: usize,
     sent: u64,
     numbers: Numbers,
+    ending: Ending,
     queue: SendQueue<A>,
     receiving: RecvQueue<A>,
     // The Reads of this end whose responses have not come whole.
     reads: Reads<A>,
     // The peer's Read Requests.
     asked: Requests,
-    // The sequence number of the peer's first octet, and whether octets were delivered, and kept or dropped.
-    first: u32,
-    answered: bool,
     start: Start,
 }
 
@@ -182,8 +184,8 @@ impl<A: Allocator> Stream<A> {
         self.domain
     }
 
-    /// Gives the stream a number in its domain, so that its peer may use the regions that are limited to it (RFC 5042 2.2.5).
-    /// Of several calls the last counts.
+    /// Gives the stream its number at the endpoint, so that its peer may use the regions that are limited to it
+    /// (RFC 5042 2.2.5). Of several calls the last counts.
     pub fn set_number(&mut self, number: u32)
         ensures { self.new ≡ numbered self.old number }
     {
@@ -365,7 +367,7 @@ impl<A: Allocator> Stream<A> {
         if size < MIN_MULPDU || size > MAX_MULPDU {
             return Err(SizeRefusal::BadSize);
         }
-        self.mulpdu = size as usize;
+        self.mulpdu = size as u16;
         Ok(())
     }
 

@@ -274,7 +274,7 @@ impl<A: Allocator> Stream<A> {
         if self.queue.is_begun() {
             return None;
         }
-        self.asked.next_part(self.mulpdu)
+        self.asked.next_part(self.mulpdu as usize)
     }
 
     // Fetches the part of a response that is due, and appends its frame.
@@ -295,14 +295,8 @@ impl<A: Allocator> Stream<A> {
         ensures room { vec_len out.old + length (octets_due memory.now self.old (Response part)) ≤ vec_capacity out.old → OnErr result (BeginsReads self.old (Response part)) }
         ensures denied { (fault : Fault) → emission_due memory.now self.old (Response part) ≡ Emission.Fault fault → is_ok result ≡ true }
     {
-        match fetch(
-            &part,
-            memory,
-            Peer {
-                domain: self.domain,
-                stream: self.number,
-            },
-        ) {
+        let (domain, stream) = (self.domain, self.number);
+        match fetch(&part, memory, Peer { domain, stream }) {
             Ok(octets) => self.emit_fetched(part, octets, out),
             Err(fault) => {
                 let terminate = terminate_fetched(&self.asked, fault);
@@ -335,7 +329,7 @@ impl<A: Allocator> Stream<A> {
         write_tagged(self.start.sending(), place, part.head, octets, out)?;
         let len = out.len() - before;
         let from = self.sent;
-        self.asked.part_fetched(self.mulpdu);
+        self.asked.part_fetched(self.mulpdu as usize);
         self.sent += len as u64;
         let ResponsePart { stag, to, n, .. } = part;
         Ok(Emission::Fetched {
@@ -361,7 +355,7 @@ impl<A: Allocator> Stream<A> {
     {
         let place = self.sent - self.start.first_place_out();
         self.queue.limits();
-        let Some(part) = self.queue.next_part(self.mulpdu) else {
+        let Some(part) = self.queue.next_part(self.mulpdu as usize) else {
             return Ok(Emission::Nothing);
         };
         if must_wait(self.start.most_reads(), &self.reads, part.message) {

@@ -19,8 +19,8 @@ use crate::answer::Step;
 use crate::ending::Ending;
 use crate::incoming::{Incoming, frame_at, held_at};
 use crate::judging::{
-    Header, Landing, PlacedFrame, header_of, keep_frame, keep_tagged, land_early, land_frame,
-    land_tagged, landing_of, placed_frame, tagged_parts,
+    Buffered, Header, Landing, PlacedFrame, header_of, keep_frame, keep_tagged, land_early,
+    land_frame, land_send, land_tagged, landing_of, placed_frame, tagged_parts,
 };
 use crate::terminating::{LastWord, terminate_clashed, terminate_judged};
 use crate::turning::is_response;
@@ -152,9 +152,9 @@ impl<A: Allocator> Stream<A> {
     ghost use Rattle.iw_stream.specs.Work.{next_frame, early_frame, frame_task, step_of, left_by, table_left};
     ghost use Rattle.iw_stream.specs.Kept.{Stands, NoneReachesOver};
 
-    // Judges the frame at the in-order point, if it is whole, and places it, if it is of a Write or a Read Response and passes
-    // its checks. The answer is its place, or `None` if it is not whole. An `Err` changes nothing, and comes with any other
-    // frame.
+    // Judges the frame at the in-order point, if it is whole, and places it, if it is of a Write, a Read Response or a Send and
+    // passes its checks. The answer is its place, or `None` if it is not whole. An `Err` changes nothing, and comes with any
+    // other frame, and with a Send that has a marker near its front.
     #[inline(always)]
     pub(crate) fn judge(&mut self, memory: &mut Memory<A>) -> Result<Option<Landing>, Apart>
         requires open { is_open self.old.start ≡ true }
@@ -184,7 +184,16 @@ impl<A: Allocator> Stream<A> {
             return Err(Apart);
         };
         let Some(head) = tagged_head(front) else {
-            return Err(Apart);
+            let Some(Buffered { msn, mo, len }) = land_send(
+                &mut self.front,
+                fpdu,
+                start,
+                &self.asked,
+                &mut self.receiving,
+            ) else {
+                return Err(Apart);
+            };
+            return Ok(Some(Landing::Send { msn, mo, len }));
         };
         let response = is_response(&head);
         match land_tagged(

@@ -105,7 +105,7 @@ impl<A: Allocator> Stream<A> {
         ensures { result ≡ not (is_none_due (option_map_or NextPart (part_due self.now) NoneDue)) }
     {
         self.queue.limits();
-        let Some(part) = self.queue.next_part(self.mulpdu) else {
+        let Some(part) = self.queue.next_part(self.mulpdu as usize) else {
             return false;
         };
         !must_wait(self.start.most_reads(), &self.reads, part.message)
@@ -139,14 +139,8 @@ impl<A: Allocator> Stream<A> {
         requires due { response_due self.now ≡ Some part.now }
         ensures { result ≡ length (octets_due memory.now self.now (Response part.now)) }
     {
-        match fetch(
-            part,
-            memory,
-            Peer {
-                domain: self.domain,
-                stream: self.number,
-            },
-        ) {
+        let (domain, stream) = (self.domain, self.number);
+        match fetch(part, memory, Peer { domain, stream }) {
             Ok(octets) => self.frame_len(TAGGED_HEADER + octets.len()),
             Err(_) => 0,
         }
@@ -158,7 +152,7 @@ impl<A: Allocator> Stream<A> {
         ensures { (table : Table) → result ≡ length (octets_due table self.now (option_map_or NextPart (part_due self.now) NoneDue)) }
     {
         self.queue.limits();
-        let Some(part) = self.queue.next_part(self.mulpdu) else {
+        let Some(part) = self.queue.next_part(self.mulpdu as usize) else {
             return 0;
         };
         if must_wait(self.start.most_reads(), &self.reads, part.message) {

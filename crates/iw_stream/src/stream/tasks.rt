@@ -67,6 +67,7 @@ impl<A: Allocator> Stream<A> {
     /// whichever segment that is, the pool's oldest buffer is bound to its message; nothing else takes a buffer. A bound buffer
     /// is handed out with its message or, once the stream has ended, handed back; the others stay in the pool. A stream that
     /// shares none leaves the pool alone.
+    #[inline(always)]
     pub fn work_shared(
         &mut self,
         memory: &mut Memory<A>,

@@ -12,7 +12,7 @@ use crate::judging::{PlacedFrame, Turning};
 use crate::terminating::terminate_turned;
 use crate::turning::{is_response, turn_frame, turn_reads};
 use iw_memory::{Memory, Peer};
-use iw_octets::{Octets, Segment};
+use iw_octets::{Octets, Segment, is_tagged};
 use iw_rdmap::tagged_head;
 use iw_untagged::Received;
 use std::alloc::Allocator;
@@ -35,6 +35,9 @@ impl<A: Allocator> Stream<A> {
         ensures kept { result ≡ false → self.new ≡ self.old }
         ensures reach { self.new.arrived.floor ≤ self.old.arrived.floor + 2 ^ 18 }
     {
+        if self.is_front_untagged() {
+            return false;
+        }
         let Some(frame) = &self.front else {
             return false;
         };
@@ -153,7 +156,23 @@ impl<A: Allocator> Stream<A> {
         ensures reach { self.new.arrived.floor ≤ self.old.arrived.floor + 2 ^ 18 }
         ensures within { IsWithinBuffer result }
     {
+        if self.is_front_untagged() {
+            return self.turn_due(memory);
+        }
         self.turn_slow_outlined(memory)
+    }
+
+    // Whether the frame that was placed at the in-order point has an untagged segment, by its first octet. What it answers
+    // decides on the shorter way alone.
+    #[inline(always)]
+    fn is_front_untagged(&self) -> bool {
+        let Some(frame) = &self.front else {
+            return false;
+        };
+        match frame.header.as_slice() {
+            [first, ..] => !is_tagged(*first),
+            [] => false,
+        }
     }
 
     // The same, out of line. Most are Read Responses.
@@ -207,48 +226,16 @@ impl<A: Allocator> Stream<A> {
         ensures reach { self.new.arrived.floor ≤ self.old.arrived.floor + 2 ^ 18 }
         ensures within { IsWithinBuffer result }
     {
+        self.arrived.limits();
+        self.receiving.limits();
         let Some(frame) = &self.front else {
             return Step::Idle;
         };
-        let frame = frame.copied();
-        self.turn_by_kind(frame, memory)
-    }
-
-    // What is kept of the frame at the in-order point, if it was placed, there or before its turn.
-    pub(crate) fn waiting(&self) -> Option<PlacedFrame>
-        requires none { self.now.front ≡ None }
-        requires place { self.now.arrived.floor ≤ 2 ^ 62 }
-        ensures { result ≡ waiting self.now }
-    {
-        let layout = self.start.expecting();
-        let place = self.arrived.floor() - self.start.first_place_in();
-        self.arrived.placed_at(layout.start_of(place))
-    }
-
-    // Gives the frame at the in-order point, which was placed, there or before its turn, its turn by the checks of its kind.
-    #[inline(never)]
-    pub(crate) fn turn_by_kind(
-        &mut self,
-        frame: PlacedFrame,
-        memory: &mut Memory<A>,
-    ) -> Step<Octets<A>>
-        requires open { is_open self.old.start ≡ true }
-        requires runs { ended self.old ≡ false }
-        requires waiting { waiting self.old ≡ Some frame }
-        requires place { self.old.arrived.floor + 2 ^ 18 ≤ 2 ^ 63 }
-        ensures step { result ≡ step_of memory.old self.old (Turn frame) }
-        ensures after { self.new ≡ left_by memory.old self.old (Turn frame) }
-        ensures memory { memory.new ≡ table_left memory.old self.old (Turn frame) }
-        ensures reach { self.new.arrived.floor ≤ self.old.arrived.floor + 2 ^ 18 }
-        ensures within { IsWithinBuffer result }
-    {
-        self.arrived.limits();
-        self.receiving.limits();
         let (domain, stream) = (self.domain, self.number);
         let end = self.start.expecting().end_of(frame.start, frame.len);
         let place = self.start.first_place_in() + end;
         let turning = match turn_frame(
-            &frame,
+            frame,
             Peer { domain, stream },
             &mut self.reads,
             memory,
@@ -256,7 +243,8 @@ impl<A: Allocator> Stream<A> {
         ) {
             Ok(turning) => turning,
             Err(fault) => {
-                self.end_by(terminate_turned(&frame, fault));
+                let terminate = terminate_turned(frame, fault);
+                self.end_by(terminate);
                 return Step::Fault(fault);
             }
         };
@@ -281,5 +269,37 @@ impl<A: Allocator> Stream<A> {
                 Step::Passed
             }
         }
+    }
+
+    // What is kept of the frame at the in-order point, if it was placed, there or before its turn.
+    pub(crate) fn waiting(&self) -> Option<PlacedFrame>
+        requires none { self.now.front ≡ None }
+        requires place { self.now.arrived.floor ≤ 2 ^ 62 }
+        ensures { result ≡ waiting self.now }
+    {
+        let layout = self.start.expecting();
+        let place = self.arrived.floor() - self.start.first_place_in();
+        self.arrived.placed_at(layout.start_of(place))
+    }
+
+    // Gives the frame at the in-order point, which was placed, there or before its turn, its turn by the checks of its kind.
+    pub(crate) fn turn_by_kind(
+        &mut self,
+        frame: PlacedFrame,
+        memory: &mut Memory<A>,
+    ) -> Step<Octets<A>>
+        requires open { is_open self.old.start ≡ true }
+        requires runs { ended self.old ≡ false }
+        requires waiting { waiting self.old ≡ Some frame }
+        requires place { self.old.arrived.floor + 2 ^ 18 ≤ 2 ^ 63 }
+        ensures step { result ≡ step_of memory.old self.old (Turn frame) }
+        ensures after { self.new ≡ left_by memory.old self.old (Turn frame) }
+        ensures memory { memory.new ≡ table_left memory.old self.old (Turn frame) }
+        ensures reach { self.new.arrived.floor ≤ self.old.arrived.floor + 2 ^ 18 }
+        ensures within { IsWithinBuffer result }
+    {
+        self.arrived.limits();
+        self.front = Some(frame);
+        self.turn_due(memory)
     }
 }

@@ -1,170 +1,29 @@
-use Rattle.std.proofs.Common.{◌≡◌, ◌+◌, ◌<◌, ◌^◌, false, true, Ok, Err, ap, sym, ◌∙◌, subst, arith}
+use Rattle.std.proofs.Common.{◌≡◌, false, true, Some, ap, ◌∙◌}
 use Rattle.iw_stream.specs.Fields.{state_of}
-use Rattle.iw_fpdu.specs.declared.layout.Layout.{Layout}
-use Rattle.iw_fpdu.specs.Frame.{frame_end}
-use Rattle.iw_stream.specs.Starting.{is_open, first_place_in}
-use Rattle.iw_stream.specs.Stream.{StreamState, ended, peer_of}
-use Rattle.iw_stream.specs.Work.{place_past}
-use Rattle.iw_stream.specs.Kept.{AreAwaited}
-use Rattle.iw_queues.specs.Completions as completions
-use Rattle.iw_queues.specs.Queue.{Queue}
-use Rattle.iw_stream.specs.Frames.{head_in, payload_len}
-use Rattle.iw_stream.proofs.Reading.{awaited_answered, awaited_left, awaits_answered, none_left}
-use Rattle.iw_stream.specs.Judging.{turn_of}
-use Rattle.iw_stream.specs.Stream.{ends_by}
-use Rattle.iw_stream.specs.Work.{Turn, standing, waiting, after_turn, left_by}
-use Rattle.iw_stream.proofs.Keeping.{frame_stays, keeps_past, reaches, turn_finishes, turn_stays}
-use Rattle.iw_stream.proofs.Waiting.{kept_scene, passed, records_near, waiting_stands}
+use Rattle.iw_stream.specs.Starting.{is_open}
+use Rattle.iw_stream.specs.Stream.{StreamState, ended}
+use Rattle.iw_stream.specs.Work.{Turn, waiting, step_of, left_by, table_left}
+use Rattle.iw_stream.proofs.Keeping.{keeps_fronted}
+use Rattle.iw_stream.proofs.Waiting.{kept_scene, waiting_stands}
 use Rattle.iw_stream.proofs.stream.Stream.turn_by_kind.Goals as goal
 
-pub invariant_of-self-in-Passed : goal.invariant_of-self-in-Passed
-invariant_of-self-in-Passed g c = record {
+pub invariant_of-self : goal.invariant_of-self
+invariant_of-self g c = record {
   keeps =
+      let s = state_of c.self.inside in
       let running : is_open (state_of c.self.inside).start ≡ true = ap (λ (t : StreamState). is_open t.start) c.self.view_is ∙ c.requires.open in
       let runs : ended (state_of c.self.inside) ≡ false = ap ended c.self.view_is ∙ c.requires.runs in
-      let there : c.first_place_in.result + c.end_of-end.result ≡ place_past (state_of c.self.inside) c.args.frame =
-      (λ i. c.first_place_in.ensures.place i + c.end_of-end.ensures i)
-      ∙ ap (λ (l : Layout). first_place_in c.self.inside.start + frame_end l.markers c.args.frame.start c.args.frame.len) c.expecting.ensures in
-      keeps_past (state_of c.self.inside) c.args.frame (c.first_place_in.result + c.end_of-end.result) c.advance.new.self.arrived c.turn_frame.new.receiving c.self.inside.queue c.turn_frame.new.reads c.self.inside.asked c.advance.new.self.early c.self.inside.arrived.base
-      running (waiting_stands (state_of c.self.inside) c.self.invariant.keeps runs (kept_scene (state_of c.self.inside) c.self.inside.arrived.layout c.self.inside.arrived.base c.self.invariant.layout c.self.invariant.base c.limits.ensures.tracked.keeps) c.limits.ensures.apart c.limits.ensures.arrived c.args.frame (ap waiting c.self.view_is ∙ c.requires.waiting)).0.stands there c.advance.ensures.arrived c.advance.ensures.early
-      (turn_stays (state_of c.self.inside) c.args.frame c.turn_frame.new.receiving (frame_stays (state_of c.self.inside).receiving c.turn_frame.new.receiving c.args.frame c.in-Ok.ensures.receiving) c.self.invariant.keeps (waiting_stands (state_of c.self.inside) c.self.invariant.keeps runs (kept_scene (state_of c.self.inside) c.self.inside.arrived.layout c.self.inside.arrived.base c.self.invariant.layout c.self.invariant.base c.limits.ensures.tracked.keeps) c.limits.ensures.apart c.limits.ensures.arrived c.args.frame (ap waiting c.self.view_is ∙ c.requires.waiting)).0.stands) c.self.invariant.keeps.first
-      (subst (AreAwaited c.self.inside.queue.sent) (sym c.in-Ok.ensures.reads) (awaited_left c.self.inside.queue.sent c.self.inside.reads (payload_len c.args.frame) (head_in c.args.frame) (c.self.invariant.keeps.awaited runs)))
-      (λ e. c.in-Ok.ensures.reads ∙ none_left c.self.inside.reads (payload_len c.args.frame) (head_in c.args.frame) e) c.self.invariant.keeps;
-  layout = c.advance.ensures.same.layout ∙ c.self.invariant.layout;
-  base = c.advance.ensures.same.base ∙ c.self.invariant.base;
+      let w = waiting_stands s c.self.invariant.keeps runs (kept_scene s c.self.inside.arrived.layout c.self.inside.arrived.base c.self.invariant.layout c.self.invariant.base c.limits.ensures.tracked.keeps) c.limits.ensures.apart c.limits.ensures.arrived c.args.frame (ap waiting c.self.view_is ∙ c.requires.waiting) in
+      keeps_fronted s c.args.frame running w.0 w.1 c.self.invariant.keeps;
+  layout = c.self.invariant.layout;
+  base = c.self.invariant.base;
 }
 
-pub invariant_of-self-in-Completed : goal.invariant_of-self-in-Completed
-invariant_of-self-in-Completed g c = record {
-  keeps =
-      let running : is_open (state_of c.self.inside).start ≡ true = ap (λ (t : StreamState). is_open t.start) c.self.view_is ∙ c.requires.open in
-      let runs : ended (state_of c.self.inside) ≡ false = ap ended c.self.view_is ∙ c.requires.runs in
-      let there : c.first_place_in.result + c.end_of-end.result ≡ place_past (state_of c.self.inside) c.args.frame =
-      (λ i. c.first_place_in.ensures.place i + c.end_of-end.ensures i)
-      ∙ ap (λ (l : Layout). first_place_in c.self.inside.start + frame_end l.markers c.args.frame.start c.args.frame.len) c.expecting.ensures in
-      keeps_past (state_of c.self.inside) c.args.frame (c.first_place_in.result + c.end_of-end.result) c.advance.new.self.arrived c.finish-buffer.new.self c.self.inside.queue c.turn_frame.new.reads c.self.inside.asked c.advance.new.self.early c.self.inside.arrived.base
-      running (waiting_stands (state_of c.self.inside) c.self.invariant.keeps runs (kept_scene (state_of c.self.inside) c.self.inside.arrived.layout c.self.inside.arrived.base c.self.invariant.layout c.self.invariant.base c.limits.ensures.tracked.keeps) c.limits.ensures.apart c.limits.ensures.arrived c.args.frame (ap waiting c.self.view_is ∙ c.requires.waiting)).0.stands there c.advance.ensures.arrived c.advance.ensures.early
-      (turn_finishes (state_of c.self.inside) c.args.frame c.turn_frame.new.receiving c.finish-buffer.new.self (frame_stays (state_of c.self.inside).receiving c.turn_frame.new.receiving c.args.frame c.in-Ok.ensures.receiving) c.finish-buffer.ensures.after c.limits-2.ensures.due
-      (records_near (state_of c.self.inside) c.self.invariant.keeps (kept_scene (state_of c.self.inside) c.self.inside.arrived.layout c.self.inside.arrived.base c.self.invariant.layout c.self.invariant.base c.limits.ensures.tracked.keeps) c.limits.ensures.apart c.limits.ensures.arrived) c.self.invariant.keeps (waiting_stands (state_of c.self.inside) c.self.invariant.keeps runs (kept_scene (state_of c.self.inside) c.self.inside.arrived.layout c.self.inside.arrived.base c.self.invariant.layout c.self.invariant.base c.limits.ensures.tracked.keeps) c.limits.ensures.apart c.limits.ensures.arrived c.args.frame (ap waiting c.self.view_is ∙ c.requires.waiting)).0.stands) c.self.invariant.keeps.first
-      (subst (AreAwaited c.self.inside.queue.sent) (sym c.in-Ok.ensures.reads) (awaited_left c.self.inside.queue.sent c.self.inside.reads (payload_len c.args.frame) (head_in c.args.frame) (c.self.invariant.keeps.awaited runs)))
-      (λ e. c.in-Ok.ensures.reads ∙ none_left c.self.inside.reads (payload_len c.args.frame) (head_in c.args.frame) e) c.self.invariant.keeps;
-  layout = c.advance.ensures.same.layout ∙ c.self.invariant.layout;
-  base = c.advance.ensures.same.base ∙ c.self.invariant.base;
-}
+pub returns-clause-step : goal.returns-clause-step
+returns-clause-step g c = c.turn_due.ensures.step ∙ ap (λ (t : StreamState). step_of c.args.memory.now t (Turn c.args.frame)) c.self.view_is
 
-pub returns-in-Passed-clause-reach : goal.returns-in-Passed-clause-reach
-returns-in-Passed-clause-reach g c =
-    let s = state_of c.self.inside in
-    let runs : ended (state_of c.self.inside) ≡ false = ap ended c.self.view_is ∙ c.requires.runs in
-    let p = (waiting_stands (state_of c.self.inside) c.self.invariant.keeps runs (kept_scene (state_of c.self.inside) c.self.inside.arrived.layout c.self.inside.arrived.base c.self.invariant.layout c.self.invariant.base c.limits.ensures.tracked.keeps) c.limits.ensures.apart c.limits.ensures.arrived c.args.frame (ap waiting c.self.view_is ∙ c.requires.waiting)).0 in
-    let there : c.first_place_in.result + c.end_of-end.result ≡ place_past (state_of c.self.inside) c.args.frame =
-    (λ i. c.first_place_in.ensures.place i + c.end_of-end.ensures i)
-    ∙ ap (λ (l : Layout). first_place_in c.self.inside.start + frame_end l.markers c.args.frame.start c.args.frame.len) c.expecting.ensures in
-    reaches s c.args.self.now c.advance.new.self.arrived (c.first_place_in.result + c.end_of-end.result) c.advance.ensures.arrived (omega (arith, there, p.stands.near)) c.self.view_is
+pub returns-clause-after : goal.returns-clause-after
+returns-clause-after g c = c.turn_due.ensures.after ∙ ap (λ (t : StreamState). left_by c.args.memory.now t (Turn c.args.frame)) c.self.view_is
 
-pub returns-in-Completed-clause-reach : goal.returns-in-Completed-clause-reach
-returns-in-Completed-clause-reach g c =
-    let s = state_of c.self.inside in
-    let runs : ended (state_of c.self.inside) ≡ false = ap ended c.self.view_is ∙ c.requires.runs in
-    let p = (waiting_stands (state_of c.self.inside) c.self.invariant.keeps runs (kept_scene (state_of c.self.inside) c.self.inside.arrived.layout c.self.inside.arrived.base c.self.invariant.layout c.self.invariant.base c.limits.ensures.tracked.keeps) c.limits.ensures.apart c.limits.ensures.arrived c.args.frame (ap waiting c.self.view_is ∙ c.requires.waiting)).0 in
-    let there : c.first_place_in.result + c.end_of-end.result ≡ place_past (state_of c.self.inside) c.args.frame =
-    (λ i. c.first_place_in.ensures.place i + c.end_of-end.ensures i)
-    ∙ ap (λ (l : Layout). first_place_in c.self.inside.start + frame_end l.markers c.args.frame.start c.args.frame.len) c.expecting.ensures in
-    reaches s c.args.self.now c.advance.new.self.arrived (c.first_place_in.result + c.end_of-end.result) c.advance.ensures.arrived (omega (arith, there, p.stands.near)) c.self.view_is
-
-pub finish-requires : goal.finish-requires
-finish-requires g c =
-    let runs : ended (state_of c.self.inside) ≡ false = ap ended c.self.view_is ∙ c.requires.runs in
-    awaits_answered c.self.inside.queue.sent c.args.memory.now (peer_of (state_of c.self.inside)) c.self.inside.receiving c.self.inside.reads (payload_len c.args.frame) (head_in c.args.frame) c.in-Answered.ticket (c.self.invariant.keeps.awaited runs)
-    (sym c.turn_frame.ensures.turn ∙ c.in-Ok.is ∙ ap Ok c.in-Answered.is)
-
-pub invariant_of-self-in-Answered : goal.invariant_of-self-in-Answered
-invariant_of-self-in-Answered g c = record {
-  keeps =
-      let running : is_open (state_of c.self.inside).start ≡ true = ap (λ (t : StreamState). is_open t.start) c.self.view_is ∙ c.requires.open in
-      let runs : ended (state_of c.self.inside) ≡ false = ap ended c.self.view_is ∙ c.requires.runs in
-      let there : c.first_place_in.result + c.end_of-end.result ≡ place_past (state_of c.self.inside) c.args.frame =
-      (λ i. c.first_place_in.ensures.place i + c.end_of-end.ensures i)
-      ∙ ap (λ (l : Layout). first_place_in c.self.inside.start + frame_end l.markers c.args.frame.start c.args.frame.len) c.expecting.ensures in
-      keeps_past (state_of c.self.inside) c.args.frame (c.first_place_in.result + c.end_of-end.result) c.advance.new.self.arrived c.turn_frame.new.receiving c.finish.new.self c.turn_frame.new.reads c.self.inside.asked c.advance.new.self.early c.self.inside.arrived.base
-      running (waiting_stands (state_of c.self.inside) c.self.invariant.keeps runs (kept_scene (state_of c.self.inside) c.self.inside.arrived.layout c.self.inside.arrived.base c.self.invariant.layout c.self.invariant.base c.limits.ensures.tracked.keeps) c.limits.ensures.apart c.limits.ensures.arrived c.args.frame (ap waiting c.self.view_is ∙ c.requires.waiting)).0.stands there c.advance.ensures.arrived c.advance.ensures.early
-      (turn_stays (state_of c.self.inside) c.args.frame c.turn_frame.new.receiving (frame_stays (state_of c.self.inside).receiving c.turn_frame.new.receiving c.args.frame c.in-Ok.ensures.receiving) c.self.invariant.keeps (waiting_stands (state_of c.self.inside) c.self.invariant.keeps runs (kept_scene (state_of c.self.inside) c.self.inside.arrived.layout c.self.inside.arrived.base c.self.invariant.layout c.self.invariant.base c.limits.ensures.tracked.keeps) c.limits.ensures.apart c.limits.ensures.arrived c.args.frame (ap waiting c.self.view_is ∙ c.requires.waiting)).0.stands)
-      (subst (λ (q : Queue). q.sent.first < 2 ^ 64) (sym c.finish.ensures) c.self.invariant.keeps.first)
-      (subst (λ (q : Queue). AreAwaited q.sent c.turn_frame.new.reads) (sym c.finish.ensures)
-      (subst (AreAwaited (completions.finished c.self.inside.queue.sent c.in-Answered.ticket)) (sym c.in-Ok.ensures.reads)
-      (awaited_answered c.self.inside.queue.sent c.args.memory.now (peer_of (state_of c.self.inside)) c.self.inside.receiving c.self.inside.reads (payload_len c.args.frame) (head_in c.args.frame) c.in-Answered.ticket c.self.invariant.keeps.first (c.self.invariant.keeps.awaited runs)
-      (sym c.turn_frame.ensures.turn ∙ c.in-Ok.is ∙ ap Ok c.in-Answered.is))))
-      (λ e. c.in-Ok.ensures.reads ∙ none_left c.self.inside.reads (payload_len c.args.frame) (head_in c.args.frame) e) c.self.invariant.keeps;
-  layout = c.advance.ensures.same.layout ∙ c.self.invariant.layout;
-  base = c.advance.ensures.same.base ∙ c.self.invariant.base;
-}
-
-pub returns-in-Answered-clause-reach : goal.returns-in-Answered-clause-reach
-returns-in-Answered-clause-reach g c =
-    let s = state_of c.self.inside in
-    let runs : ended (state_of c.self.inside) ≡ false = ap ended c.self.view_is ∙ c.requires.runs in
-    let p = (waiting_stands (state_of c.self.inside) c.self.invariant.keeps runs (kept_scene (state_of c.self.inside) c.self.inside.arrived.layout c.self.inside.arrived.base c.self.invariant.layout c.self.invariant.base c.limits.ensures.tracked.keeps) c.limits.ensures.apart c.limits.ensures.arrived c.args.frame (ap waiting c.self.view_is ∙ c.requires.waiting)).0 in
-    let there : c.first_place_in.result + c.end_of-end.result ≡ place_past (state_of c.self.inside) c.args.frame =
-    (λ i. c.first_place_in.ensures.place i + c.end_of-end.ensures i)
-    ∙ ap (λ (l : Layout). first_place_in c.self.inside.start + frame_end l.markers c.args.frame.start c.args.frame.len) c.expecting.ensures in
-    reaches s c.args.self.now c.advance.new.self.arrived (c.first_place_in.result + c.end_of-end.result) c.advance.ensures.arrived (omega (arith, there, p.stands.near)) c.self.view_is
-
-pub advance-requires-clause-passed : goal.advance-requires-clause-passed
-advance-requires-clause-passed g c =
-    let runs : ended (state_of c.self.inside) ≡ false = ap ended c.self.view_is ∙ c.requires.runs in
-    let there : c.first_place_in.result + c.end_of-end.result ≡ place_past (state_of c.self.inside) c.args.frame =
-    (λ i. c.first_place_in.ensures.place i + c.end_of-end.ensures i)
-    ∙ ap (λ (l : Layout). first_place_in c.self.inside.start + frame_end l.markers c.args.frame.start c.args.frame.len) c.expecting.ensures in
-    let w = (waiting_stands (state_of c.self.inside) c.self.invariant.keeps runs (kept_scene (state_of c.self.inside) c.self.inside.arrived.layout c.self.inside.arrived.base c.self.invariant.layout c.self.invariant.base c.limits.ensures.tracked.keeps) c.limits.ensures.apart c.limits.ensures.arrived c.args.frame (ap waiting c.self.view_is ∙ c.requires.waiting)) in
-    passed (state_of c.self.inside) c.args.frame c.self.inside.arrived.layout c.self.inside.arrived.base (c.first_place_in.result + c.end_of-end.result) c.self.invariant.layout c.self.invariant.base there c.self.invariant.keeps w.0.stands w.1
-
-pub end_of-end-requires : goal.end_of-end-requires
-end_of-end-requires g c =
-    let runs : ended (state_of c.self.inside) ≡ false = ap ended c.self.view_is ∙ c.requires.runs in
-    let w = (waiting_stands (state_of c.self.inside) c.self.invariant.keeps runs (kept_scene (state_of c.self.inside) c.self.inside.arrived.layout c.self.inside.arrived.base c.self.invariant.layout c.self.invariant.base c.limits.ensures.tracked.keeps) c.limits.ensures.apart c.limits.ensures.arrived c.args.frame (ap waiting c.self.view_is ∙ c.requires.waiting)) in
-    omega (arith, w.0.stands.low, ap (λ (t : StreamState). t.arrived.floor) c.self.view_is, c.requires.place)
-
-pub overflow_add-place : goal.overflow_add-place
-overflow_add-place g c =
-    let runs : ended (state_of c.self.inside) ≡ false = ap ended c.self.view_is ∙ c.requires.runs in
-    let w = (waiting_stands (state_of c.self.inside) c.self.invariant.keeps runs (kept_scene (state_of c.self.inside) c.self.inside.arrived.layout c.self.inside.arrived.base c.self.invariant.layout c.self.invariant.base c.limits.ensures.tracked.keeps) c.limits.ensures.apart c.limits.ensures.arrived c.args.frame (ap waiting c.self.view_is ∙ c.requires.waiting)) in
-    let there : c.first_place_in.result + c.end_of-end.result ≡ place_past (state_of c.self.inside) c.args.frame =
-    (λ i. c.first_place_in.ensures.place i + c.end_of-end.ensures i)
-    ∙ ap (λ (l : Layout). first_place_in c.self.inside.start + frame_end l.markers c.args.frame.start c.args.frame.len) c.expecting.ensures in
-    omega (arith, there, w.0.stands.near, ap (λ (t : StreamState). t.arrived.floor) c.self.view_is, c.requires.place)
-
-pub advance-requires-clause-near : goal.advance-requires-clause-near
-advance-requires-clause-near g c =
-    let runs : ended (state_of c.self.inside) ≡ false = ap ended c.self.view_is ∙ c.requires.runs in
-    let w = (waiting_stands (state_of c.self.inside) c.self.invariant.keeps runs (kept_scene (state_of c.self.inside) c.self.inside.arrived.layout c.self.inside.arrived.base c.self.invariant.layout c.self.invariant.base c.limits.ensures.tracked.keeps) c.limits.ensures.apart c.limits.ensures.arrived c.args.frame (ap waiting c.self.view_is ∙ c.requires.waiting)) in
-    let there : c.first_place_in.result + c.end_of-end.result ≡ place_past (state_of c.self.inside) c.args.frame =
-    (λ i. c.first_place_in.ensures.place i + c.end_of-end.ensures i)
-    ∙ ap (λ (l : Layout). first_place_in c.self.inside.start + frame_end l.markers c.args.frame.start c.args.frame.len) c.expecting.ensures in
-    omega (arith, there, w.0.stands.near, ap (λ (t : StreamState). t.arrived.floor) c.self.view_is, c.requires.place)
-
-pub turn_frame-requires-clause-header : goal.turn_frame-requires-clause-header
-turn_frame-requires-clause-header g c =
-    let runs : ended (state_of c.self.inside) ≡ false = ap ended c.self.view_is ∙ c.requires.runs in
-    let w = (waiting_stands (state_of c.self.inside) c.self.invariant.keeps runs (kept_scene (state_of c.self.inside) c.self.inside.arrived.layout c.self.inside.arrived.base c.self.invariant.layout c.self.invariant.base c.limits.ensures.tracked.keeps) c.limits.ensures.apart c.limits.ensures.arrived c.args.frame (ap waiting c.self.view_is ∙ c.requires.waiting)) in
-    w.0.stands.header
-
-pub turn_frame-requires-clause-room : goal.turn_frame-requires-clause-room
-turn_frame-requires-clause-room g c =
-    let runs : ended (state_of c.self.inside) ≡ false = ap ended c.self.view_is ∙ c.requires.runs in
-    let w = (waiting_stands (state_of c.self.inside) c.self.invariant.keeps runs (kept_scene (state_of c.self.inside) c.self.inside.arrived.layout c.self.inside.arrived.base c.self.invariant.layout c.self.invariant.base c.limits.ensures.tracked.keeps) c.limits.ensures.apart c.limits.ensures.arrived c.args.frame (ap waiting c.self.view_is ∙ c.requires.waiting)) in
-    w.0.room
-
-pub terminate_turned-requires-clause-whole : goal.terminate_turned-requires-clause-whole
-terminate_turned-requires-clause-whole g c =
-    let runs : ended (state_of c.self.inside) ≡ false = ap ended c.self.view_is ∙ c.requires.runs in
-    let w = (waiting_stands (state_of c.self.inside) c.self.invariant.keeps runs (kept_scene (state_of c.self.inside) c.self.inside.arrived.layout c.self.inside.arrived.base c.self.invariant.layout c.self.invariant.base c.limits.ensures.tracked.keeps) c.limits.ensures.apart c.limits.ensures.arrived c.args.frame (ap waiting c.self.view_is ∙ c.requires.waiting)) in
-    w.0.stands.whole
-
-pub returns-in-Err-clause-after : goal.returns-in-Err-clause-after
-returns-in-Err-clause-after g c =
-    let s = state_of c.self.inside in
-    let table = c.args.memory.now in
-    let frame = c.args.frame in
-    let is : turn_of (standing table s) frame ≡ Err c.in-Err.fault = sym c.turn_frame.ensures.turn ∙ c.in-Err.is in
-    c.end_by.ensures ∙ (λ i. ends_by (record s { receiving = c.in-Err.ensures.err.0 i; reads = c.in-Err.ensures.err.1 i }) (c.terminate_turned.ensures i))
-    ∙ ap (after_turn s frame) (sym is) ∙ ap (λ (t : StreamState). left_by table t (Turn frame)) c.self.view_is
+pub returns-clause-memory : goal.returns-clause-memory
+returns-clause-memory g c = c.turn_due.ensures.memory ∙ ap (λ (t : StreamState). table_left c.args.memory.now t (Turn c.args.frame)) c.self.view_is
