@@ -26,7 +26,8 @@
  *   copies is used from then on. Nothing else writes its field.
  * - The program reads and writes the octets of its buffers and regions, at the addresses that iwarp_buffer_at and
  *   iwarp_region_at tell, only between calls on that buffer or on that region's handle, and passes no pointer to them to
- *   such a call. It writes to a place that iwarp_room lent only before the next call on that handle.
+ *   such a call. It writes to a place that iwarp_room lent only before the next call on that handle, and to octets that
+ *   were posted from a buffer only after they were fetched.
  * - No pointer is null, even if its count is 0. `octets` and `private_data` point to `n` octets that can be read, and
  *   that nothing writes during the call; `out` points to `room` octets that can be written. What the pointers of one
  *   call point to does not overlap.
@@ -36,11 +37,13 @@
  * - The program's malloc, realloc and free are of one allocator, and align to 16.
  *
  * Each function that returns an int32_t returns IWARP_OK, or the first reason why it did nothing. If it does not return
- * IWARP_OK, the handle, the buffer and all that the call may write are as they were, with two exceptions: a length is
- * written with IWARP_NO_ROOM (by iwarp_emit with IWARP_NO_MEMORY too), and the steps that iwarp_work_on did before a
- * refused one stay done. IWARP_NO_MEMORY means that malloc failed; the call may be made again. A call that copies
- * octets, or allocates a receive buffer, does so first, so it may return IWARP_NO_MEMORY in place of a reason that the
- * region, the stream or the pool has. A call that takes a buffer returns it only if no other reason holds.
+ * IWARP_OK, the handle, the buffer and all that the call may write are as they were, with three exceptions: a length is
+ * written with IWARP_NO_ROOM (by iwarp_emit with IWARP_NO_MEMORY too); the steps that iwarp_work_on did before a
+ * refused one stay done; and iwarp_post_send_buffer says what may become of a buffer. IWARP_NO_MEMORY means that malloc
+ * failed; the call may be made again. A call that copies octets, or allocates a receive buffer, does so first, so it may
+ * return IWARP_NO_MEMORY in place of a reason that the region, the stream or the pool has; iwarp_post_send_buffer and
+ * iwarp_post_write_buffer, which allocate a few octets first, may too. Any other call that takes a buffer returns it only
+ * if no other reason holds.
  *
  * A peer's mistake is never a return code: iwarp_work reports IWARP_FAULT, or iwarp_emit IWARP_DENIED, and that stream
  * has ended.
@@ -68,7 +71,7 @@ extern "C" {
 #endif
 
 /* The version of this header: 10,000 for each major number, 100 for each minor one, 1 for each revision. */
-#define IWARP_VERSION 901
+#define IWARP_VERSION 10000
 
 /* An endpoint, or none. */
 struct iwarp {
@@ -154,8 +157,8 @@ int32_t iwarp_add_domain(struct iwarp *handle, uint32_t pd);
 
 /* ---- buffers */
 
-/* Makes a buffer of `n` zero octets. They can become a region and come back, with nothing copied: they stay at their address
- * until they are freed, or iwarp_emit_onto is called with the buffer. */
+/* Makes a buffer of `n` zero octets. They can become a region, a receive buffer or a message and come back, with nothing
+ * copied: they stay at their address until they are freed, or iwarp_emit_onto is called with the buffer. */
 int32_t iwarp_buffer_new(size_t n, struct iwarp_buffer *buffer);
 
 /* Frees the buffer's octets: then it is IWARP_NO_BUFFER. A second call does nothing. */
@@ -349,6 +352,18 @@ int32_t iwarp_post_send(struct iwarp *handle, uint32_t stream, const uint8_t *oc
 int32_t iwarp_post_write(struct iwarp *handle, uint32_t stream, uint32_t stag, uint64_t to, const uint8_t *octets, size_t n,
                          uint64_t token);
 
+/* Posts a Send of the buffer's octets themselves, as iwarp_post_send does of a copy: nothing is copied, and the buffer has none
+ * then. Once IWARP_DONE or IWARP_FLUSHED tells of this message, iwarp_fetch_sent moves them back into a buffer. If the call is
+ * refused, the buffer keeps them, but for one case: if it has none after IWARP_NO_MEMORY, then there was no memory to move
+ * them back, and iwarp_fetch_sent still does, in place of those that it would have moved. */
+int32_t iwarp_post_send_buffer(struct iwarp *handle, uint32_t stream, struct iwarp_buffer *buffer, uint32_t flags, uint32_t stag,
+                               uint64_t token);
+
+/* Posts a Write of the buffer's octets themselves, as iwarp_post_write does of a copy, and takes them as iwarp_post_send_buffer
+ * does. */
+int32_t iwarp_post_write_buffer(struct iwarp *handle, uint32_t stream, uint32_t stag, uint64_t to, struct iwarp_buffer *buffer,
+                                uint64_t token);
+
 /* Posts a Read of `size` octets, from a region of the peer into one of this end. */
 int32_t iwarp_post_read(struct iwarp *handle, uint32_t stream, uint32_t sink, uint64_t sink_to, uint32_t size,
                         uint32_t source, uint64_t source_to, uint64_t token);
@@ -461,7 +476,8 @@ struct iwarp_event {
 
 /* Does one step at a stream. Call it until it reports IWARP_IDLE: after octets were delivered, after some were emitted,
  * and after iwarp_break. Get a message or buffer that it reports with iwarp_fetch or iwarp_fetch_buffer, before the next one is
- * reported on this stream: then that one takes its place. */
+ * reported on this stream: then that one takes its place. Get the octets of a message that was posted from a buffer with
+ * iwarp_fetch_sent, before the next IWARP_DONE or IWARP_FLUSHED on this stream. */
 int32_t iwarp_work(struct iwarp *handle, uint32_t stream, struct iwarp_event *event);
 
 /* Calls iwarp_work as long as it returns IWARP_OK and reports IWARP_PLACED, IWARP_BUFFERED, IWARP_REQUESTED,
@@ -479,6 +495,13 @@ int32_t iwarp_fetch(struct iwarp *handle, uint32_t stream, uint8_t *out, size_t 
  * it has none then, and `*n` is 0. A program that posts it again (iwarp_post_recv_buffer) has one buffer for each Send that
  * it awaits, and none is made or cleared for each message. */
 int32_t iwarp_fetch_buffer(struct iwarp *handle, uint32_t stream, struct iwarp_buffer *buffer, size_t *n);
+
+/* Moves into the buffer the octets of the message that IWARP_DONE or IWARP_FLUSHED told of last on this stream, if it was posted
+ * from a buffer, and forgets them: the same octets, whole. The octets that the buffer had are freed. If that message was not
+ * posted from a buffer, or its octets were fetched, the buffer has none then. With the next IWARP_DONE or IWARP_FLUSHED on the
+ * stream, octets that were not fetched are freed. After IWARP_NO_MEMORY they can still be fetched. The octets stay at their
+ * address, but today the call writes each onto itself, which takes longer than a copy: for speed post copies. */
+int32_t iwarp_fetch_sent(struct iwarp *handle, uint32_t stream, struct iwarp_buffer *buffer);
 
 /* What a call of iwarp_emit did. */
 enum {

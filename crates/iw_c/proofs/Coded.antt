@@ -1,10 +1,13 @@
 -- What a refusal's code tells.
-use Rattle.std.proofs.Common.{◌≡◌, ℤ, pos, Option, Some, None, Ok, Err, ap, ◌∙◌, ◌⊎◌, inl, inr, subst}
+use Rattle.std.proofs.Common.{◌≡◌, ◌≢◌, ℕ, ℤ, pos, Option, Some, None, Ok, Err, ap, ◌∙◌, ◌⊎◌, inl, inr, subst}
 use Rattle.std.specs.Prelude.{Result, IfSome, IfNone, IfErr}
 use Rattle.std.specs.Result.{result_err}
 use Rattle.iw_handle.specs.declared.refusal.Refusal.{Refusal}
 use Rattle.iw_handle.specs.declared.refusal.Refusal.TheVariants.{NoMemory}
 use Rattle.iw_handle.specs.Refusals.{code_of, refusal_code}
+use Rattle.iw_handle.specs.Sending.{HasKeptIn}
+use Rattle.iw_handle.specs.State.{State}
+use Rattle.iw_buffer.specs.Octets as buffers
 
 pub coded_refusal : {A : Type 0} (o : Option Refusal) (r : Result A Refusal) (n : ℤ) → IfSome o (λ x. r ≡ Err x) → n ≡ pos (code_of (result_err r)) → IfSome o (λ x. n ≡ pos (refusal_code x))
 coded_refusal None r n refused is = tt
@@ -21,3 +24,11 @@ coded_refusal_as o p r n same refused is = subst (λ q. IfSome q (λ x. n ≡ po
 
 pub coded_memory_as : {A : Type 0} (o p : Option Refusal) (r : Result A Refusal) (n : ℤ) → o ≡ p → IfNone o (IfErr r (λ e. e ≡ NoMemory)) → n ≡ pos (code_of (result_err r)) → IfNone p ((n ≡ pos 0) ⊎ (n ≡ pos 3))
 coded_memory_as o p r n same memory is = subst (λ q. IfNone q ((n ≡ pos 0) ⊎ (n ≡ pos 3))) same (coded_memory o r n memory is)
+
+-- what a refusal leaves of a posting from a buffer
+pub coded_kept : {A : Type 0} (state : State) (number : ℕ) (buffer : buffers.State) (after : State) (left : buffers.State) (r : Result A Refusal) (n : ℤ)
+    → IfErr r (λ e. HasKeptIn (e ≡ NoMemory) state number buffer after left) → n ≡ pos (code_of (result_err r)) → n ≢ pos 0
+    → HasKeptIn (n ≡ pos 3) state number buffer after left
+coded_kept state number buffer after left (Ok x) n kept is bad = absurd (bad is)
+coded_kept state number buffer after left (Err e) n (inl same) is bad = inl same
+coded_kept state number buffer after left (Err e) n (inr waits) is bad = inr (is ∙ ap (λ x. pos (refusal_code x)) waits.0, waits.1, waits.2)

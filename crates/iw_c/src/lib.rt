@@ -14,6 +14,7 @@ mod pools;
 mod posting;
 mod receiving;
 mod regions;
+mod sending;
 mod streams;
 mod texts;
 
@@ -46,6 +47,7 @@ pub use regions::{
     iwarp_deregister, iwarp_drop_region, iwarp_facts, iwarp_invalidate, iwarp_load,
     iwarp_region_at, iwarp_register, iwarp_store,
 };
+pub use sending::{iwarp_fetch_sent, iwarp_post_send_buffer, iwarp_post_write_buffer};
 use std::alloc::Global;
 pub use streams::{
     iwarp_accept, iwarp_break, iwarp_open, iwarp_private, iwarp_reject, iwarp_set_mulpdu,
@@ -54,7 +56,7 @@ pub use streams::{
 pub use texts::{iwarp_fault_text_at, iwarp_text_at};
 
 /// The version of this library: 10,000 for each major number, 100 for each minor one, 1 for each revision.
-pub const VERSION: u32 = 901;
+pub const VERSION: u32 = 10_000;
 
 /// Returns [`VERSION`].
 #[unsafe(no_mangle)]

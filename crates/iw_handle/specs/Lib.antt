@@ -10,3 +10,4 @@ pub mod Events
 pub mod Steps
 pub mod Lending
 pub mod Limiting
+pub mod Sending

@@ -15,7 +15,7 @@ use Rattle.iw_stream.specs.declared.answer.Step.TheVariants.{Done, Flushed, Flus
 use Rattle.iw_stream.specs.declared.answer.Step.TheVariants.{Buffered, Requested, Tried, Passed, Received, Terminated}
 use Rattle.iw_stream.specs.declared.answer.Step.TheVariants.{Fault, Idle}
 use Rattle.iw_lines.specs.Handed.{nothing_handed, whole, told_of}
-use Rattle.iw_lines.specs.Line.{with_handed, with_token, oldest_token, without_oldest}
+use Rattle.iw_lines.specs.Line.{with_handed, with_posted, oldest_token, without_oldest}
 use Rattle.iw_lines.specs.Lines.{LineTable, line_at, with_line}
 use Rattle.iw_endpoint.specs.declared.refusal.NoSuchStream.{NoSuchStream}
 use Rattle.iw_endpoint.specs.Endpoint as endpoint
@@ -87,8 +87,8 @@ due_shown e number = if_none (refusal_to_go_on e number) (emitted_at e number)
 abbrev pub private_shown : EndpointState → ℕ → Option (List ℕ)
 private_shown e number = if has_stream e number then Some (private_at e number) else None
 
--- what waits at a stream after a step: the message, or the buffer of an ended stream, that it hands back; and the tokens without
--- that of the message which is done or given up
+-- what waits at a stream after a step: the message, or the buffer of an ended stream, that it hands back; and what is posted,
+-- without the message that is done or given up, whose octets wait if it was posted from a buffer
 abbrev pub lines_by : Step (List ℕ) → ℕ → LineTable → LineTable
 lines_by (Received buffer len solicited invalidate) number lines =
     with_line lines number (with_handed (line_at lines number) (record { buffer = buffer; len = len }))
@@ -176,7 +176,7 @@ read_of request = requests.Read request
 abbrev pub held_posted : Held → ℕ → Request (List ℕ) → ℕ → Held
 held_posted held number request token = record {
   endpoint = endpoint.with_request held.endpoint number request;
-  lines = with_line held.lines number (with_token (line_at held.lines number) token);
+  lines = with_line held.lines number (with_posted (line_at held.lines number) token);
 }
 
 abbrev pub posted : State → ℕ → Request (List ℕ) → ℕ → State

@@ -2,7 +2,7 @@
 ghost use Rattle.std.specs.Prelude.{◌≡◌, ◌≤◌};
 ghost use Rattle.iw_handle.specs.Events.{kind_number, right_number, startup_number, stag_number};
 ghost use Rattle.iw_handle.specs.Events.{flag, agreed_flags, received_flags, rights_number, kept_number};
-ghost use Rattle.iw_handle.specs.Events.{message_event, fault_event, received_event, event_of};
+ghost use Rattle.iw_handle.specs.Events.{no_event, message_event, fault_event, received_event, event_of};
 ghost use Rattle.iw_handle.specs.Events.{emitted_of, facts_of, rtr_flag, word_told, peer_told, state_number};
 ghost use Rattle.iw_handle.specs.Steps.{is_quiet};
 
@@ -236,6 +236,14 @@ fn stag_number(stag: Option<Stag>) -> u32
     }
 }
 
+// An event of which its kind tells all.
+#[inline(always)]
+fn bare_event(kind: u32) -> Event
+    ensures { result ≡ record no_event { kind = kind } }
+{
+    Event { kind, ..NO_EVENT }
+}
+
 #[inline(always)]
 fn fault_event(kind: u32, fault: Fault) -> Event
     ensures { result ≡ fault_event kind fault }
@@ -352,10 +360,7 @@ pub fn event_of(oldest: u64, step: &Step<Octets>) -> Event
             len: buffer.len() as u64,
             ..NO_EVENT
         },
-        Step::Asked => Event {
-            kind: numbers::ASKED,
-            ..NO_EVENT
-        },
+        Step::Asked => bare_event(numbers::ASKED),
         Step::Opened(agreed) => opened_event(*agreed),
         Step::Closed(fault) => closed_event(*fault),
         Step::Placed {
@@ -366,10 +371,7 @@ pub fn event_of(oldest: u64, step: &Step<Octets>) -> Event
         } => placed_event(*right, *stag, *to, *len),
         Step::Buffered { msn, mo, len } => buffered_event(*msn, *mo, *len),
         Step::Requested { size, stag, to } => requested_event(*size, *stag, *to),
-        Step::Passed => Event {
-            kind: numbers::PASSED,
-            ..NO_EVENT
-        },
+        Step::Passed => bare_event(numbers::PASSED),
         Step::Received {
             len,
             solicited,

@@ -19,6 +19,7 @@ mod posting;
 mod receiving;
 mod refusal;
 mod regions;
+mod sending;
 mod streams;
 mod words;
 mod working;

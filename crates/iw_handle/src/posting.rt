@@ -18,7 +18,7 @@ use iw_endpoint::{CallRefusal, Endpoint, Message, PostRefusal, ReadRequest, Requ
 use std::alloc::{AllocError, Global};
 
 // The reason of a refusal; the request is dropped.
-fn reason_of(refused: (CallRefusal<PostRefusal>, Request<Bytes>)) -> Refusal
+pub(crate) fn reason_of(refused: (CallRefusal<PostRefusal>, Request<Bytes>)) -> Refusal
     ensures { result ≡ post_reason refused.0 }
 {
     let (refusal, _) = refused;

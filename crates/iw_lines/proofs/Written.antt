@@ -25,6 +25,13 @@ module _ {S : Type 0} where
       let u = through.3 (subst (λ o. IsSome o) (sym was) refl) in
       written (hash.get nat_eq m) (hash.get nat_eq n) lines number old change is below was (u.1 ∙ ap Some e) (λ k other. u.2 k (ne_eqb number k (λ e. other (sym e))))
 
+  -- the same, if a call succeeded
+  pub wrote_ok : {R E : Type 0} (m n : HashMap ℕ Line S) (lines : LineTable) (number : ℕ) (old new : Line) (change : Line → Line) (r : Result R E) → listed (hash.get nat_eq m) ≡ lines → number < 2 ^ 32
+      → hash.get nat_eq m number ≡ Some old → OnOk r (new ≡ change old) → WritesThrough nat_eq (nat_eq number) m new n
+      → OnOk r (listed (hash.get nat_eq n) ≡ with_line lines number (change (line_at lines number)))
+  wrote_ok m n lines number old new change (Ok x) is below was e through = wrote m n lines number old new change is below was e through
+  wrote_ok m n lines number old new change (Err x) is below was e through = tt
+
   -- there was none
   pub wrote_nothing : (m n : HashMap ℕ Line S) (lines : LineTable) (number : ℕ) (line : Line) → listed (hash.get nat_eq m) ≡ lines → number < 2 ^ 32
       → hash.get nat_eq m number ≡ None → n ≡ m → listed (hash.get nat_eq n) ≡ with_line lines number line

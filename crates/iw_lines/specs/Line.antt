@@ -1,5 +1,5 @@
 -- What waits at one stream.
-use Rattle.std.specs.Prelude.{ℕ, List, [], ◌∷◌, ◌++◌, length, drop, nat_lt, slice_index_or, if◌then◌else◌}
+use Rattle.std.specs.Prelude.{ℕ, Bool, true, false, List, [], ◌∷◌, ◌++◌, length, drop, nat_lt, slice_index_or, if◌then◌else◌}
 use Rattle.arrayvec.specs.ArrayVec.{ArrayVec}
 use Rattle.iw_lines.specs.declared.handed.Handed.{Handed}
 use Rattle.iw_lines.specs.declared.line.Line.{Line}
@@ -7,7 +7,14 @@ use Rattle.iw_lines.specs.Handed.{nothing_handed}
 
 -- nothing was handed back, nothing is posted, and no place is lent
 abbrev pub new_line : Line
-new_line = record { handed = nothing_handed; tokens = record { items = [] }; lent = 0 }
+new_line = record {
+  handed = nothing_handed;
+  tokens = record { items = [] };
+  lent = 0;
+  from_buffer = record { items = [] };
+  payloads = [];
+  sent = [];
+}
 
 abbrev pub with_handed : Line → Handed → Line
 with_handed line handed = record line { handed = handed }
@@ -15,19 +22,63 @@ with_handed line handed = record line { handed = handed }
 abbrev pub with_tokens : Line → List ℕ → Line
 with_tokens line tokens = record line { tokens = record { items = tokens } }
 
+abbrev pub with_flags : Line → List Bool → Line
+with_flags line flags = record line { from_buffer = record { items = flags } }
+
+abbrev pub with_payloads : Line → List (List ℕ) → Line
+with_payloads line payloads = record line { payloads = payloads }
+
 -- behind those that wait, of which a stream has at most 256
-abbrev pub pushed : List ℕ → ℕ → List ℕ
-pushed tokens token = if nat_lt (length tokens) 256 then tokens ++ token ∷ [] else tokens
+abbrev pub pushed : {A : Type 0} → List A → A → List A
+pushed xs x = if nat_lt (length xs) 256 then xs ++ x ∷ [] else xs
 
 abbrev pub with_token : Line → ℕ → Line
 with_token line token = with_tokens line (pushed line.tokens.items token)
+
+abbrev pub with_flag : Line → Bool → Line
+with_flag line flag = with_flags line (pushed line.from_buffer.items flag)
+
+abbrev pub with_octets : Line → List ℕ → Line
+with_octets line octets = with_payloads line (pushed line.payloads octets)
+
+-- a message is posted, which the program knows by this token
+abbrev pub with_posted : Line → ℕ → Line
+with_posted line token = with_flag (with_token line token) false
+
+-- the same from a buffer, which had these octets
+abbrev pub with_payload : Line → ℕ → List ℕ → Line
+with_payload line token octets = with_octets (with_flag (with_token line token) true) octets
 
 -- the token of the message that was posted first; 0 if none is posted
 abbrev pub oldest_token : Line → ℕ
 oldest_token line = slice_index_or line.tokens.items 0 0
 
+-- whether that message was posted from a buffer
+abbrev pub is_from_buffer : Line → Bool
+is_from_buffer line = slice_index_or line.from_buffer.items 0 false
+
+-- the octets of the first message that was
+abbrev pub oldest_payload : Line → List ℕ
+oldest_payload line = slice_index_or line.payloads 0 []
+
+abbrev pub without_token : Line → Line
+without_token line = with_tokens line (drop 1 line.tokens.items)
+
+abbrev pub without_flag : Line → Line
+without_flag line = with_flags line (drop 1 line.from_buffer.items)
+
+abbrev pub without_payload : Line → Line
+without_payload line = with_payloads line (drop 1 line.payloads)
+
+-- these octets are to be fetched, in place of those that were
+abbrev pub with_sent : Line → List ℕ → Line
+with_sent line octets = record line { sent = octets }
+
+-- the message that was posted first is done or given up: its octets are to be fetched if it was posted from a buffer
 abbrev pub without_oldest : Line → Line
-without_oldest line = with_tokens line (drop 1 line.tokens.items)
+without_oldest line =
+    let rest = without_flag (without_token line) in
+    if is_from_buffer line then with_sent (without_payload rest) (oldest_payload line) else with_sent rest []
 
 -- a place for n octets is lent
 abbrev pub with_lent : Line → ℕ → Line

@@ -1,13 +1,17 @@
-//! What waits for the program at each stream: the buffer that was handed back last and not yet fetched, and the tokens by which
-//! the program knows what it posted.
+//! What waits for the program at each stream: the buffer that was handed back last and not yet fetched, the tokens by which
+//! the program knows what it posted, and the octets that it posted from a buffer, until they are fetched.
 #![tactic(auto)]
 
 mod handed;
 mod line;
 mod lines;
+mod payload;
 mod place;
+mod sent;
 
 pub use handed::Handed;
 pub use line::{Line, MAX_TOKENS};
 pub use lines::Lines;
+pub use payload::Payload;
 pub use place::Place;
+pub use sent::Sent;

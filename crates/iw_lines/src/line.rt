@@ -1,10 +1,15 @@
-ghost use Rattle.std.specs.Prelude.{◌≡◌};
-ghost use Rattle.iw_lines.specs.Line.{new_line, with_handed, with_token, oldest_token, without_oldest, with_lent};
+ghost use Rattle.std.specs.Prelude.{◌≡◌, [], IfOk, OnOk, OnErr};
+ghost use Rattle.iw_lines.specs.Line.{new_line, with_handed, with_token, with_payload, oldest_token, without_oldest, with_lent, with_sent};
+ghost use Rattle.iw_lines.specs.Line.{with_posted, without_token, with_flag, with_octets, is_from_buffer, without_flag, without_payload, oldest_payload};
 ghost use Rattle.iw_lines.specs.Handed.{nothing_handed};
 
 use crate::handed::Handed;
+use crate::payload::Payload;
+use crate::sent::Sent;
 use arrayvec::ArrayVec;
-use std::alloc::Global;
+use bytes::Bytes;
+use std::alloc::{AllocError, Global};
+use std::collections::LinkedList;
 
 /// How many tokens wait at a stream at most: as many as messages may be posted.
 pub const MAX_TOKENS: usize = 256;
@@ -18,6 +23,12 @@ pub struct Line {
     pub tokens: ArrayVec<u64, MAX_TOKENS>,
     /// For how many octets a place to read to was lent last, if none of them were counted yet.
     pub lent: usize,
+    /// Which of those messages were posted from a buffer.
+    pub from_buffer: ArrayVec<bool, MAX_TOKENS>,
+    /// The octets of those that were, oldest first.
+    pub payloads: LinkedList<Bytes>,
+    /// The octets of the message that was done or flushed last and not yet fetched; none if it was not posted from a buffer.
+    pub sent: Sent,
 }
 
 impl Line {
@@ -28,6 +39,9 @@ impl Line {
             handed: Handed::nothing(alloc),
             tokens: ArrayVec::new(),
             lent: 0,
+            from_buffer: ArrayVec::new(),
+            payloads: LinkedList::new(alloc),
+            sent: Sent::nothing(),
         }
     }
 
@@ -46,13 +60,49 @@ impl Line {
         std::mem::replace(&mut self.handed, Handed::nothing(alloc))
     }
 
-    /// Puts a token behind the others. There is room for 256.
-    pub(crate) fn push(&mut self, token: u64)
+    // Puts a token behind the others. There is room for 256.
+    fn push_token(&mut self, token: u64)
         ensures { self.new ≡ with_token self.old token }
     {
         if self.tokens.len() < MAX_TOKENS {
             self.tokens.push(token);
         }
+    }
+
+    // Puts behind the others whether a message was posted from a buffer.
+    fn push_flag(&mut self, from_buffer: bool)
+        ensures { self.new ≡ with_flag self.old from_buffer }
+    {
+        if self.from_buffer.len() < MAX_TOKENS {
+            self.from_buffer.push(from_buffer);
+        }
+    }
+
+    // Puts a message's octets behind the others.
+    fn push_octets(&mut self, payload: Payload)
+        ensures { self.new ≡ with_octets self.old payload }
+    {
+        if self.payloads.len() < MAX_TOKENS {
+            let mut list = payload.into_list();
+            let _ = self.payloads.append(&mut list);
+        }
+    }
+
+    /// Puts a token behind the others. There is room for 256.
+    pub(crate) fn push(&mut self, token: u64)
+        ensures { self.new ≡ with_posted self.old token }
+    {
+        self.push_token(token);
+        self.push_flag(false);
+    }
+
+    /// The same for a message that was posted from a buffer, whose octets are kept.
+    pub(crate) fn push_payload(&mut self, token: u64, payload: Payload)
+        ensures { self.new ≡ with_payload self.old token payload }
+    {
+        self.push_token(token);
+        self.push_flag(true);
+        self.push_octets(payload);
     }
 
     /// The oldest token; 0 if there is none.
@@ -72,12 +122,70 @@ impl Line {
         self.lent = n;
     }
 
-    /// Takes the oldest token out, if there is one.
-    pub(crate) fn pop(&mut self)
-        ensures { self.new ≡ without_oldest self.old }
+    // Takes out whether the oldest message was posted from a buffer.
+    fn pop_flag(&mut self) -> bool
+        ensures flag { result ≡ is_from_buffer self.old }
+        ensures after { self.new ≡ without_flag self.old }
+    {
+        if self.from_buffer.is_empty() {
+            return false;
+        }
+        self.from_buffer.remove(0)
+    }
+
+    // Takes out the oldest octets that are kept.
+    fn pop_octets(&mut self) -> Sent
+        ensures octets { result ≡ oldest_payload self.old }
+        ensures after { self.new ≡ without_payload self.old }
+    {
+        match self.payloads.pop_front() {
+            Some(octets) => Sent::shared(octets),
+            None => Sent::nothing(),
+        }
+    }
+
+    /// Keeps octets to be fetched; those that were kept for that before are freed.
+    pub(crate) fn keep_sent(&mut self, sent: Sent)
+        ensures { self.new ≡ with_sent self.old sent }
+    {
+        self.sent = sent;
+    }
+
+    /// Hands out the octets that are kept to be fetched. An `Err` means out of memory, and changes nothing.
+    pub(crate) fn fetch_sent(&mut self, alloc: Global) -> Result<Vec<u8>, AllocError>
+        ensures octets { IfOk result (λ octets. octets.items ≡ self.old.sent) }
+        ensures ok { OnOk result (self.new ≡ with_sent self.old []) }
+        ensures err { OnErr result (self.new ≡ self.old) }
+    {
+        let sent = std::mem::replace(&mut self.sent, Sent::nothing());
+        match sent.into_vec(alloc) {
+            Ok(octets) => Ok(octets),
+            Err(sent) => {
+                self.sent = sent;
+                Err(AllocError)
+            }
+        }
+    }
+
+    // Takes the oldest token out, if there is one.
+    fn pop_token(&mut self)
+        ensures { self.new ≡ without_token self.old }
     {
         if !self.tokens.is_empty() {
             self.tokens.remove(0);
         }
+    }
+
+    /// Takes the oldest message out, if there is one. Its octets are kept to be fetched if it was posted from a buffer, and
+    /// else none are.
+    pub(crate) fn pop(&mut self)
+        ensures { self.new ≡ without_oldest self.old }
+    {
+        self.pop_token();
+        self.sent = if self.pop_flag() {
+            self.pop_octets()
+        } else {
+            Sent::nothing()
+        };
     }
 }

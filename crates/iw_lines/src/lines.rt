@@ -1,7 +1,9 @@
-ghost use Rattle.std.specs.Prelude.{◌≡◌, IfOk, IsSome, OnOk, OnErr};
+ghost use Rattle.std.specs.Prelude.{◌≡◌, [], IfOk, IsSome, OnOk, OnErr};
 
 use crate::handed::Handed;
+use crate::payload::Payload;
 use crate::place::Place;
+use crate::sent::Sent;
 use std::alloc::{AllocError, Global};
 use std::collections::HashMap;
 use std::hash::{BuildHasherDefault, FoldHasher};
@@ -26,7 +28,7 @@ impl Model for Lines {
 
 impl Lines {
     ghost use Rattle.iw_lines.specs.Handed.{nothing_handed, told_of};
-    ghost use Rattle.iw_lines.specs.Line.{with_handed, with_token, oldest_token, without_oldest, with_lent};
+    ghost use Rattle.iw_lines.specs.Line.{with_handed, with_posted, with_payload, oldest_token, without_oldest, with_lent, with_sent};
     ghost use Rattle.iw_lines.specs.Lines.{no_lines, opened, closed, place_of, with_place, line_at, with_line};
 
     /// No stream has a line. It takes no memory.
@@ -112,14 +114,49 @@ impl Lines {
         place.fetch(alloc)
     }
 
-    /// Puts a token behind those of a stream, if they are fewer than 256. It does nothing for a number that has no line.
+    /// Puts the token of a message behind those of a stream, if they are fewer than 256. It does nothing for a number that has
+    /// no line.
     pub fn push(&mut self, number: u32, token: u64)
-        ensures { self.new ≡ with_line self.old number (with_token (line_at self.old number) token) }
+        ensures { self.new ≡ with_line self.old number (with_posted (line_at self.old number) token) }
     {
         let Some(place) = self.places.get_mut(&number) else {
             return;
         };
         place.push(token);
+    }
+
+    /// The same for a message that was posted from a buffer, whose octets are kept.
+    pub fn push_payload(&mut self, number: u32, token: u64, payload: Payload)
+        ensures { self.new ≡ with_line self.old number (with_payload (line_at self.old number) token payload) }
+    {
+        let Some(place) = self.places.get_mut(&number) else {
+            return;
+        };
+        place.push_payload(token, payload);
+    }
+
+    /// Keeps octets to be fetched at a stream; those that were kept for that before are freed. It does nothing for a number
+    /// that has no line.
+    pub fn keep_sent(&mut self, number: u32, sent: Sent)
+        ensures { self.new ≡ with_line self.old number (with_sent (line_at self.old number) sent) }
+    {
+        let Some(place) = self.places.get_mut(&number) else {
+            return;
+        };
+        place.keep_sent(sent);
+    }
+
+    /// Hands out the octets of the message that was taken out last at a stream, if it was posted from a buffer; none
+    /// otherwise, and once they were fetched. An `Err` means out of memory, and changes nothing.
+    pub fn fetch_sent(&mut self, alloc: Global, number: u32) -> Result<Vec<u8>, AllocError>
+        ensures octets { IfOk result (λ octets. octets.items ≡ (line_at self.old number).sent) }
+        ensures ok { OnOk result (self.new ≡ with_line self.old number (with_sent (line_at self.old number) [])) }
+        ensures err { OnErr result (self.new ≡ self.old) }
+    {
+        let Some(place) = self.places.get_mut(&number) else {
+            return Ok(Vec::new(alloc));
+        };
+        place.fetch_sent(alloc)
     }
 
     /// The oldest token of a stream; 0 if it has none.
@@ -132,7 +169,8 @@ impl Lines {
         }
     }
 
-    /// Takes the oldest token of a stream out, if it has one.
+    /// Takes the oldest message of a stream out, if it has one. Its octets are kept to be fetched if it was posted from a
+    /// buffer, and else none are.
     pub fn pop(&mut self, number: u32)
         ensures { self.new ≡ with_line self.old number (without_oldest (line_at self.old number)) }
     {

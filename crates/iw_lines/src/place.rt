@@ -1,9 +1,11 @@
-ghost use Rattle.std.specs.Prelude.{◌≡◌, IfOk};
-ghost use Rattle.iw_lines.specs.Line.{new_line, with_handed, with_token, oldest_token, without_oldest, with_lent};
+ghost use Rattle.std.specs.Prelude.{◌≡◌, [], IfOk, OnOk, OnErr};
+ghost use Rattle.iw_lines.specs.Line.{new_line, with_handed, with_posted, with_payload, oldest_token, without_oldest, with_lent, with_sent};
 ghost use Rattle.iw_lines.specs.Handed.{nothing_handed, told_of};
 
 use crate::handed::Handed;
 use crate::line::Line;
+use crate::payload::Payload;
+use crate::sent::Sent;
 use std::alloc::{AllocError, Global};
 use std::marker::Model;
 
@@ -49,9 +51,29 @@ impl Place {
     }
 
     pub(crate) fn push(&mut self, token: u64)
-        ensures { self.new ≡ with_token self.old token }
+        ensures { self.new ≡ with_posted self.old token }
     {
         self.line.push(token);
+    }
+
+    pub(crate) fn push_payload(&mut self, token: u64, payload: Payload)
+        ensures { self.new ≡ with_payload self.old token payload }
+    {
+        self.line.push_payload(token, payload);
+    }
+
+    pub(crate) fn keep_sent(&mut self, sent: Sent)
+        ensures { self.new ≡ with_sent self.old sent }
+    {
+        self.line.keep_sent(sent);
+    }
+
+    pub(crate) fn fetch_sent(&mut self, alloc: Global) -> Result<Vec<u8>, AllocError>
+        ensures octets { IfOk result (λ octets. octets.items ≡ self.old.sent) }
+        ensures ok { OnOk result (self.new ≡ with_sent self.old []) }
+        ensures err { OnErr result (self.new ≡ self.old) }
+    {
+        self.line.fetch_sent(alloc)
     }
 
     pub(crate) fn oldest(&self) -> u64

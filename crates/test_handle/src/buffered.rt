@@ -1,6 +1,6 @@
-//! Octets that change hands with no copy: regions, frames and receive buffers.
+//! Octets that change hands with no copy: regions, frames, receive buffers and messages.
 use iw_buffer::{Buffer, BufferRefusal};
-use iw_handle::{Handle, NO_EVENT, Refusal};
+use iw_handle::{Handle, NO_EVENT, Refusal, stag_of};
 use std::alloc::Global;
 use std::test::Fail;
 
@@ -100,5 +100,59 @@ fn handed_back(rt: HostRuntime) -> Result<(), Fail> {
     assert_eq!(rt; handle.take_shared_buffer(alloc, 1, &mut buffer), Ok(true));
     assert_eq!(rt; handle.take_shared_buffer(alloc, 1, &mut buffer), Ok(false));
     assert_eq!(rt; len_of(alloc, &mut buffer)?, 32);
+    Ok(())
+}
+
+// Does a step, and moves the octets of the message that it tells into the buffer. Returns the token, and how many they are.
+fn next_sent(
+    handle: &mut Handle,
+    alloc: Global,
+    buffer: &mut Buffer,
+) -> Result<(u64, usize), Fail> {
+    let mut event = NO_EVENT;
+    handle.work(alloc, STREAM, &mut event)?;
+    handle.fetch_sent(alloc, STREAM, buffer)?;
+    Ok((event.token, len_of(alloc, buffer)?))
+}
+
+// What is posted from a buffer comes back when it is done or flushed, and what is copied does not.
+#[test]
+fn sent(rt: HostRuntime) -> Result<(), Fail> {
+    let alloc = rt.alloc();
+    let mut handle = ready(alloc)?;
+    let mut buffer = Buffer::none(alloc);
+    let mut frames = Buffer::none(alloc);
+    frames.make(alloc, 0)?;
+    buffer.make(alloc, 32)?;
+    assert_eq!(rt;
+        handle.post_send_buffer(alloc, STREAM, &mut buffer, 4, 0, 1),
+        Err(Refusal::BadBits)
+    );
+    assert_eq!(rt; len_of(alloc, &mut buffer)?, 32);
+    handle.post_send_buffer(alloc, STREAM, &mut buffer, 0, 0, 1)?;
+    assert_eq!(rt; len_of(alloc, &mut buffer)?, 0);
+    handle.post_send(alloc, STREAM, b"hi", 0, 0, 2)?;
+    handle.emit_onto(alloc, STREAM, &mut frames)?;
+    handle.emit_onto(alloc, STREAM, &mut frames)?;
+    assert_eq!(rt; next_sent(&mut handle, alloc, &mut buffer)?, (1, 32));
+    assert_eq!(rt; next_sent(&mut handle, alloc, &mut buffer)?, (2, 0));
+    Ok(())
+}
+
+// And if the call is refused, the buffer keeps them.
+#[test]
+fn flushed(rt: HostRuntime) -> Result<(), Fail> {
+    let alloc = rt.alloc();
+    let mut handle = ready(alloc)?;
+    let mut buffer = Buffer::none(alloc);
+    buffer.make(alloc, 8)?;
+    handle.post_write_buffer(alloc, STREAM, stag_of(7), 0, &mut buffer, 3)?;
+    handle.break_link(alloc, STREAM)?;
+    assert_eq!(rt; next_sent(&mut handle, alloc, &mut buffer)?, (3, 8));
+    assert_eq!(rt;
+        handle.post_write_buffer(alloc, STREAM, stag_of(7), 0, &mut buffer, 4),
+        Err(Refusal::NotOpen)
+    );
+    assert_eq!(rt; len_of(alloc, &mut buffer)?, 8);
     Ok(())
 }

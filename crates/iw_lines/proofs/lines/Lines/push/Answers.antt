@@ -1,7 +1,7 @@
 use Rattle.std.proofs.Common.{rules, ◌≡◌, ◌∙◌, sym, ap, Some, None}
 use Rattle.std.specs.Prelude.{nat_eq}
 use Rattle.std.specs.HashMap as hash
-use Rattle.iw_lines.specs.Line.{with_token}
+use Rattle.iw_lines.specs.Line.{with_posted}
 use Rattle.iw_lines.proofs.Written.{wrote, wrote_nothing}
 use Rattle.iw_lines.proofs.lines.Lines.push.Goals as goal
 
@@ -13,4 +13,4 @@ returns-in_default c =
 pub returns : goal.returns
 returns c =
     let was : hash.get nat_eq c.self.inside.places c.args.number ≡ Some c.in-Some.place.now = search rules in
-    wrote c.self.inside.places (c.get_mut.follows.lender c.push.new.self) c.args.self.now c.args.number c.in-Some.place.now c.push.new.self (λ line. with_token line c.args.token) c.self.view_is c.ranges.number.fits was c.push.ensures (c.get_mut.follows.holds c.push.new.self)
+    wrote c.self.inside.places (c.get_mut.follows.lender c.push.new.self) c.args.self.now c.args.number c.in-Some.place.now c.push.new.self (λ line. with_posted line c.args.token) c.self.view_is c.ranges.number.fits was c.push.ensures (c.get_mut.follows.holds c.push.new.self)
