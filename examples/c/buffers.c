@@ -79,6 +79,42 @@ static void registers(void) {
     CHECK(iwarp_drop_region(&end, stag) == IWARP_OK && iwarp_drop_region(&end, stag) == IWARP_NO_REGION);
 }
 
+/* The event that the next step of a stream reports is of this kind, and has this token. */
+static int tells(uint32_t stream, uint32_t kind, uint64_t token) {
+    struct iwarp_event event;
+    return iwarp_work_on(&end, stream, &event) == IWARP_OK && event.kind == kind && event.token == token;
+}
+
+/* A message that is posted from the buffer gives the octets back once it is done, or is given up; one that is copied gives
+ * none. */
+static void sends(void) {
+    struct iwarp_emission emission;
+    struct iwarp_buffer frames = IWARP_NO_BUFFER;
+    uint32_t stream;
+    uint8_t *at, octet = 0;
+    size_t n = 1;
+    CHECK(iwarp_open_next(&end, DOMAIN, IWARP_PRESET, 0, &octet, 0, &stream) == IWARP_OK);
+    CHECK(iwarp_buffer_new(0, &frames) == IWARP_OK);
+    CHECK(iwarp_post_send_buffer(&end, stream, &none, 0, 0, 1) == IWARP_BUFFER_MISSING);
+    CHECK(iwarp_post_send_buffer(&end, stream, &buffer, 4, 0, 1) == IWARP_BAD_BITS && has(LENGTH));
+    CHECK(iwarp_post_send_buffer(&end, stream + 1, &buffer, 0, 0, 1) == IWARP_NO_SUCH_STREAM && has(LENGTH));
+    CHECK(iwarp_post_write_buffer(&end, stream, 7, 0, &none, 1) == IWARP_BUFFER_MISSING);
+    CHECK(iwarp_fetch_sent(&end, stream, &none) == IWARP_BUFFER_MISSING);
+    CHECK(iwarp_post_send_buffer(&end, stream, &buffer, 0, 0, 1) == IWARP_OK && has(0));
+    CHECK(iwarp_post_send(&end, stream, &octet, 1, 0, 0, 2) == IWARP_OK);
+    do CHECK(iwarp_emit_onto(&end, stream, &frames, &emission) == IWARP_OK);
+    while (emission.kind != IWARP_NOTHING);
+    CHECK(tells(stream, IWARP_DONE, 1) && iwarp_fetch_sent(&end, stream, &buffer) == IWARP_OK && has(LENGTH));
+    CHECK(tells(stream, IWARP_DONE, 2) && iwarp_fetch_sent(&end, stream, &frames) == IWARP_OK);
+    CHECK(iwarp_buffer_at(&frames, &at, &n) == IWARP_OK && n == 0);
+    CHECK(iwarp_post_write_buffer(&end, stream, 7, 0, &buffer, 3) == IWARP_OK && has(0));
+    CHECK(iwarp_break(&end, stream) == IWARP_OK && tells(stream, IWARP_FLUSHED, 3));
+    CHECK(iwarp_fetch_sent(&end, stream, &buffer) == IWARP_OK && has(LENGTH));
+    CHECK(iwarp_post_write_buffer(&end, stream, 7, 0, &buffer, 4) == IWARP_NOT_OPEN && has(LENGTH));
+    for (int i = 0; i < LENGTH; i++) CHECK(first[i] == (i == 99 ? 7 : i));
+    iwarp_buffer_free(&frames);
+}
+
 /* A receive buffer comes back whole, and goes into a pool and out of it. */
 static void receives(void) {
     struct iwarp_event event;
@@ -101,6 +137,7 @@ int main(void) {
     makes();
     refuses();
     registers();
+    sends();
     receives();
     iwarp_buffer_free(&buffer);
     iwarp_buffer_free(&buffer);

@@ -89,6 +89,13 @@ static size_t has(struct iwarp_buffer *buffer, uint8_t **at) {
     return iwarp_buffer_at(buffer, at, &n) == IWARP_OK ? n : MARK;
 }
 
+/* A call took the buffer's octets, or was refused and left them. */
+static void takes(int done, struct iwarp_buffer *buffer, size_t had, const uint8_t *at) {
+    uint8_t *later;
+    size_t n = has(buffer, &later);
+    CHECK(done ? n == 0 : n == had && (n == 0 || later == at));
+}
+
 /* Memory. */
 static void call_memory(struct iwarp *handle, struct iwarp_buffer *buffer) {
     uint32_t stag = MARK, pd = any_domain(), named = any_stag();
@@ -232,10 +239,7 @@ static void call_stream(struct iwarp *handle, struct iwarp_buffer *buffer) {
         answered(iwarp_post_shared(handle, pd, len));
         return;
     case 11:
-        if (answered(iwarp_post_shared_buffer(handle, pd, buffer)))
-            CHECK(has(buffer, &later) == 0);
-        else
-            CHECK(has(buffer, &later) == had && later == at);
+        takes(answered(iwarp_post_shared_buffer(handle, pd, buffer)), buffer, had, at);
         return;
     default:
         if (answered(iwarp_take_shared_buffer(handle, pd, buffer, &found)))
@@ -282,7 +286,16 @@ static void call_octets(struct iwarp *handle, struct iwarp *other, struct iwarp_
     uint8_t *at, *later;
     size_t had = has(buffer, &at);
     struct iwarp_progress progress = {.sent = MARK};
-    switch (below(15)) {
+    switch (below(18)) {
+    case 14:
+        takes(answered(iwarp_post_send_buffer(handle, stream, buffer, any_bits(3), any_stag(), chance())), buffer, had, at);
+        return;
+    case 15:
+        takes(answered(iwarp_post_write_buffer(handle, stream, any_stag(), any_place(), buffer, chance())), buffer, had, at);
+        return;
+    case 16:
+        if (!answered(iwarp_fetch_sent(handle, stream, buffer))) CHECK(has(buffer, &later) == had && later == at);
+        return;
     case 13:
         call_room(handle, stream);
         return;
@@ -306,10 +319,7 @@ static void call_octets(struct iwarp *handle, struct iwarp *other, struct iwarp_
         answered(iwarp_post_recv(handle, stream, below(40) ? len : (size_t)chance() << 8));
         return;
     case 4:
-        if (answered(iwarp_post_recv_buffer(handle, stream, buffer)))
-            CHECK(has(buffer, &later) == 0);
-        else
-            CHECK(has(buffer, &later) == had && later == at);
+        takes(answered(iwarp_post_recv_buffer(handle, stream, buffer)), buffer, had, at);
         return;
     case 5:
         if (answered(iwarp_emit(handle, stream, frame, sizeof frame, &n, &emission)) && stream < 4) {
@@ -370,7 +380,7 @@ static void any_calls(void) {
 
 /* ---- two ends and a model */
 
-enum { STREAM = 64, DOMAIN = 1, REGION = 200000, MESSAGE = 2000, POSTED = 200, SENT = 1 << 20 };
+enum { STREAM = 64, DOMAIN = 1, REGION = 200000, MESSAGE = 2000, POSTED = 200, TURNS = 2000, SENT = 1 << 20 };
 
 /* What one end has posted, and what of it was reported as done. */
 struct sender {
@@ -381,6 +391,9 @@ struct sender {
     uint8_t messages[POSTED][MESSAGE];
     size_t lengths[POSTED];
     size_t ahead[POSTED]; /* for each Send how much was written by the Writes that were posted before it */
+    const uint8_t *from[TURNS]; /* for each message that was posted from a buffer the octets that this had; 0 for the others */
+    size_t had[TURNS]; /* how many they are */
+    struct iwarp_buffer buffer; /* one that messages are posted from, and that gets their octets back */
     unsigned sends, received; /* how many were posted, and how many came at the other end */
     uint8_t written[REGION]; /* the other end's region, once all that was posted is placed: Writes do not overlap */
     size_t end_of_written;
@@ -407,12 +420,56 @@ static void begin(struct sender *sender, struct sender *other, uint32_t options)
     uint32_t number;
     MUST(iwarp_new(&sender->end));
     MUST(iwarp_add_domain(&sender->end, DOMAIN));
+    MUST(iwarp_buffer_new(0, &sender->buffer));
     MUST(iwarp_register(&sender->end, DOMAIN, 0, other->written, REGION, IWARP_WRITE | IWARP_READ, &other->stag));
     MUST(iwarp_register(&sender->end, DOMAIN, 0, sender->written, REGION, IWARP_SINK, &sender->sink));
     MUST(iwarp_open_next(&sender->end, DOMAIN, IWARP_PRESET, options, given, 0, &number));
     CHECK(number == STREAM);
     MUST(iwarp_set_mulpdu(&sender->end, STREAM, 128 + below(1500)));
     for (int i = 0; i < POSTED; i++) MUST(iwarp_post_recv(&sender->end, STREAM, MESSAGE));
+}
+
+/* Has a buffer that messages are posted from as many octets as these, and these. */
+static void fill(struct sender *sender, const uint8_t *octets, size_t n) {
+    uint8_t *at;
+    if (has(&sender->buffer, &at) < n || below(4) == 0) {
+        iwarp_buffer_free(&sender->buffer);
+        MUST(iwarp_buffer_new(n, &sender->buffer));
+    }
+    MUST(iwarp_buffer_truncate(&sender->buffer, n));
+    CHECK(has(&sender->buffer, &at) == n);
+    memcpy(at, octets, n);
+    sender->from[sender->posted] = octets;
+    sender->had[sender->posted] = n;
+}
+
+/* Posts a Send, of a copy or from a buffer. */
+static void post_send(struct sender *sender, const uint8_t *octets, size_t n) {
+    if (below(2)) {
+        MUST(iwarp_post_send(&sender->end, STREAM, octets, n, 0, 0, sender->posted));
+        return;
+    }
+    fill(sender, octets, n);
+    MUST(iwarp_post_send_buffer(&sender->end, STREAM, &sender->buffer, 0, 0, sender->posted));
+}
+
+static void post_write(struct sender *sender, const uint8_t *octets, size_t n) {
+    if (below(2)) {
+        MUST(iwarp_post_write(&sender->end, STREAM, sender->stag, sender->end_of_written, octets, n, sender->posted));
+        return;
+    }
+    fill(sender, octets, n);
+    MUST(iwarp_post_write_buffer(&sender->end, STREAM, sender->stag, sender->end_of_written, &sender->buffer, sender->posted));
+}
+
+/* A message is done: gets its octets back if it was posted from a buffer, and none if not; or leaves them. */
+static void get_back(struct sender *sender) {
+    const uint8_t *octets = sender->from[sender->done];
+    uint8_t *at;
+    if (below(8) == 0) return;
+    MUST(iwarp_fetch_sent(&sender->end, STREAM, &sender->buffer));
+    CHECK(has(&sender->buffer, &at) == (octets ? sender->had[sender->done] : 0));
+    CHECK(!octets || memcmp(at, octets, sender->had[sender->done]) == 0);
 }
 
 static void post(struct sender *sender) {
@@ -425,13 +482,13 @@ static void post(struct sender *sender) {
         for (size_t i = 0; i < n; i++) sender->messages[sender->sends][i] = (uint8_t)chance();
         sender->lengths[sender->sends] = n;
         sender->ahead[sender->sends] = sender->end_of_written;
-        MUST(iwarp_post_send(&sender->end, STREAM, sender->messages[sender->sends], n, 0, 0, sender->posted));
+        post_send(sender, sender->messages[sender->sends], n);
         sender->sends++;
         break;
     case 1:
         if (sender->end_of_written + n > REGION) return;
         for (size_t i = 0; i < n; i++) writes[i] = (uint8_t)chance();
-        MUST(iwarp_post_write(&sender->end, STREAM, sender->stag, sender->end_of_written, writes, n, sender->posted));
+        post_write(sender, writes, n);
         sender->end_of_written += n;
         break;
     default:
@@ -466,6 +523,7 @@ static void work(struct sender *sender, struct sender *other) {
         switch (event.kind) {
         case IWARP_DONE:
             CHECK(event.token == sender->done);
+            get_back(sender);
             sender->done++;
             break;
         case IWARP_RECEIVED:
@@ -532,6 +590,7 @@ static void finish(struct sender *sender) {
     } while (event.kind != IWARP_IDLE);
     MUST(iwarp_close(&sender->end, STREAM));
     CHECK(iwarp_close(&sender->end, STREAM) == IWARP_NO_SUCH_STREAM);
+    iwarp_buffer_free(&sender->buffer);
     iwarp_free(&sender->end);
 }
 
