@@ -95,30 +95,55 @@ static uint8_t data_type(const struct command *command) {
     return command->sqe[SQE_SGL + SGL_TYPE];
 }
 
-/* Frees the buffers of the commands that are not in hand. */
-static void free_idle(struct queue *queue) {
-    for (struct command *idle = queue->idle; idle; idle = idle->next) {
-        iwarp_buffer_free(&idle->buffer);
-        queue->held -= idle->size;
-        idle->size = 0;
+void command_keep(struct queue *queue, struct spare *spare) {
+    if (queue->spare_count < MOST_COMMANDS) {
+        queue->spares[queue->spare_count++] = *spare;
+    } else {
+        iwarp_buffer_free(&spare->buffer);
+        queue->held -= spare->size;
     }
 }
 
-/* Sees to it that the command has a buffer for its data. Returns 0 if it has to wait for others to end. */
-static int has_buffer(struct command *command) {
-    struct queue *queue = command->queue;
-    size_t size = PAGE_OCTETS, all;
-    while (size < command->length) size *= 2;
-    if (command->size < command->length) {
-        iwarp_buffer_free(&command->buffer);
-        queue->held -= command->size;
-        command->size = 0;
-        if (queue->held + size > MOST_DATA) free_idle(queue);
-        if (queue->held + size > MOST_DATA || iwarp_buffer_new(size, &command->buffer) != IWARP_OK) return 0;
-        command->size = size;
-        queue->held += size;
+void command_free_spares(struct queue *queue) {
+    for (; queue->spare_count > 0; queue->spare_count--) {
+        struct spare *spare = &queue->spares[queue->spare_count - 1];
+        iwarp_buffer_free(&spare->buffer);
+        queue->held -= spare->size;
     }
-    return iwarp_buffer_at(&command->buffer, &command->data, &all) == IWARP_OK;
+}
+
+/* Takes a buffer of this size: one that is kept, or a new one. Returns whether there is room for it. */
+static int take_buffer(struct queue *queue, size_t size, struct iwarp_buffer *buffer) {
+    for (uint32_t i = queue->spare_count; i > 0; i--) {
+        struct spare *spare = &queue->spares[i - 1];
+        if (spare->size != size) continue;
+        *buffer = spare->buffer;
+        *spare = queue->spares[--queue->spare_count];
+        return 1;
+    }
+    if (queue->held + size > MOST_DATA) command_free_spares(queue);
+    if (queue->held + size > MOST_DATA || iwarp_buffer_new(size, buffer) != IWARP_OK) return 0;
+    queue->held += size;
+    return 1;
+}
+
+/* Sees to it that the command has a buffer for its data, as long as that. Returns 0 if it has to wait for others to end. */
+static int has_buffer(struct command *command) {
+    size_t all;
+    if (command->size == 0 && take_buffer(command->queue, command->length, &command->buffer)) command->size = command->length;
+    return command->size > 0 && iwarp_buffer_at(&command->buffer, &command->data, &all) == IWARP_OK;
+}
+
+/* The command has its buffer no longer. */
+static struct spare leave_buffer(struct command *command) {
+    struct spare left = {command->buffer, command->size};
+    command->buffer = (struct iwarp_buffer)IWARP_NO_BUFFER;
+    command->size = 0;
+    return left;
+}
+
+static void note(struct queue *queue, struct posted posted) {
+    queue->posted[(queue->first + queue->count++) % MOST_POSTED] = posted;
 }
 
 /* Has the host's data read into the buffer. Returns 0 if it has to wait for other Reads to end. */
@@ -127,7 +152,7 @@ static int fetch(struct command *command) {
     const uint8_t *sgl = command->sqe + SQE_SGL;
     if (queue->reads >= queue->most_reads || queue->count == MOST_POSTED) return 0;
     struct endpoint *endpoint = &queue->endpoint;
-    int32_t code = endpoint_register(endpoint, 0, &command->buffer, IWARP_SINK, &command->sink);
+    int32_t code = endpoint_sink(endpoint, &command->buffer, &command->sink);
     if (code == IWARP_OK) {
         uint32_t key = (uint32_t)field(sgl + SGL_KEY, 4);
         code = endpoint_read(endpoint, command->sink, command->length, key, field(sgl + SGL_ADDRESS, 8));
@@ -136,7 +161,7 @@ static int fetch(struct command *command) {
         queue_close(queue);
         return 1;
     }
-    queue->posted[(queue->first + queue->count++) % MOST_POSTED] = (struct posted){IWARP_MESSAGE_READ, 0, command};
+    note(queue, (struct posted){.command = command});
     queue->reads++;
     return 1;
 }
@@ -144,10 +169,12 @@ static int fetch(struct command *command) {
 void command_fetched(struct command *command) {
     size_t all;
     if (endpoint_take_back(&command->queue->endpoint, command->sink, &command->buffer) != IWARP_OK ||
-        iwarp_buffer_at(&command->buffer, &command->data, &all) != IWARP_OK)
+        iwarp_buffer_at(&command->buffer, &command->data, &all) != IWARP_OK) {
         queue_close(command->queue);
-    else
-        command->operation->run(command);
+        return;
+    }
+    command->sink = 0;
+    command->operation->run(command);
 }
 
 /* Returns 0 if the command has to wait. */
@@ -160,7 +187,7 @@ static int start(struct command *command) {
             return 1;
         }
         return has_buffer(command) && fetch(command);
-    } else if (command->direction == TO_HOST && !command->data && !has_buffer(command)) {
+    } else if (command->direction == TO_HOST && !has_buffer(command)) {
         return 0;
     }
     command->operation->run(command);
@@ -212,9 +239,13 @@ static void make_response(struct command *command, uint8_t *cqe) {
     set_field(cqe + CQE_STATUS, 2, (uint64_t)command->status << 1);
 }
 
-/* Gives the command's receive buffer and its place back. */
+/* Gives the command's buffers and its place back. */
 static int32_t release(struct command *command) {
     struct queue *queue = command->queue;
+    if (command->size > 0) {
+        struct spare left = leave_buffer(command);
+        command_keep(queue, &left);
+    }
     command->sqe = 0;
     command->next = queue->idle;
     queue->idle = command;
@@ -225,26 +256,23 @@ void command_forget(struct command *command) {
     if (release(command) != IWARP_OK) queue_close(command->queue);
 }
 
-static void note(struct queue *queue, uint32_t message, uint32_t n) {
-    queue->posted[(queue->first + queue->count++) % MOST_POSTED] = (struct posted){message, n, 0};
-    queue->written += n;
-}
-
+/* Posts a copy: a buffer that is posted itself comes back slower than it is copied (bench/README.md). The buffer is kept until the
+ * Write is done, so that there are no more octets of copies than of buffers. */
 static int32_t write_data(struct command *command) {
+    struct queue *queue = command->queue;
     const uint8_t *sgl = command->sqe + SQE_SGL;
     uint32_t key = (uint32_t)field(sgl + SGL_KEY, 4);
-    int32_t code = endpoint_write(&command->queue->endpoint, key, field(sgl + SGL_ADDRESS, 8), command->data, command->length);
-    if (code == IWARP_OK) note(command->queue, IWARP_MESSAGE_WRITE, command->length);
+    int32_t code = endpoint_write(&queue->endpoint, key, field(sgl + SGL_ADDRESS, 8), command->data, command->length);
+    if (code == IWARP_OK) note(queue, (struct posted){.written = leave_buffer(command)});
     return code;
 }
 
-/* Returns 0 if the response has to wait: for places among the posted messages, or for Writes to end. */
+/* Returns 0 if the response has to wait for places among the posted messages. */
 static int answer(struct command *command) {
     struct queue *queue = command->queue;
     uint8_t cqe[CQE_OCTETS];
     int writes = command->direction == TO_HOST && command->status == STATUS_SUCCESS;
     if (queue->count + 1 + (uint32_t)writes > MOST_POSTED) return 0;
-    if (writes && queue->written > 0 && queue->written + command->length > MOST_WRITTEN) return 0;
     int32_t code = writes ? write_data(command) : IWARP_OK;
     make_response(command, cqe);
     uint32_t key = data_type(command) == SGL_KEYED_INVALIDATE ? (uint32_t)field(command->sqe + SQE_SGL + SGL_KEY, 4) : 0;
@@ -252,7 +280,7 @@ static int answer(struct command *command) {
     if (code == IWARP_OK) code = release(command);
     if (code == IWARP_OK) code = endpoint_send(&queue->endpoint, cqe, CQE_OCTETS, key);
     if (code == IWARP_OK)
-        note(queue, IWARP_MESSAGE_SEND, 0);
+        note(queue, (struct posted){0});
     else
         queue_close(queue);
     return 1;

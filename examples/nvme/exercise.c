@@ -378,6 +378,14 @@ static void refuses(void) {
     host_end(&host);
 }
 
+/* The status in the private data of a Reply that rejects. */
+static uint16_t why_rejected(struct host_queue *queue) {
+    uint8_t answer[MOST_PRIVATE + 4];
+    size_t n;
+    CHECK(endpoint_private(&queue->endpoint, answer, sizeof answer, &n) == IWARP_OK && n == REJECT_OCTETS);
+    return (uint16_t)field(answer + REJECT_STATUS, 2);
+}
+
 /* A queue of its own for each wrong Connect; commands before a Connect, and before the controller is enabled. */
 static void refuses_connects(void) {
     const int busy = STATUS_CONNECT_INVALID | STATUS_DO_NOT_RETRY, early = STATUS_COMMAND_SEQUENCE_ERROR | STATUS_DO_NOT_RETRY;
@@ -404,6 +412,7 @@ static void refuses_connects(void) {
     CHECK(host_do(other.queues[0], 0) == early);
     host_end(&other);
     CHECK(!host_open(&other, 1, 1)); /* a queue of one entry holds no command */
+    CHECK(why_rejected(other.queues[1]) == REJECT_HSQSIZE);
     host_end(&other);
     host_end(&host);
 }
@@ -420,13 +429,18 @@ static void connects(void) {
     }
 }
 
+/* The target has time to see that hosts have gone. */
+static void let_go(void) {
+    usleep(500000);
+}
+
 /* As many hosts as the target takes, and one more, which has to wait until another has gone. */
 static void many_hosts(void) {
     static struct host hosts[MOST_HOSTS];
     struct host more = new_host();
+    let_go();
     for (int i = 0; i < MOST_HOSTS; i++) {
         hosts[i] = new_host();
-        for (int ms = 0; ms < 1000 && i == 0; ms += 100) usleep(100000); /* hosts of other tests are gone then */
         CHECK(host_begin(&hosts[i], 0, 0));
     }
     CHECK(host_open(&more, 0, 32) && host_connect(&more, 0) == STATUS_CONNECT_BUSY);
@@ -436,10 +450,33 @@ static void many_hosts(void) {
         CHECK(host_do(hosts[i].queues[0], 0) == 0);
     }
     host_end(&hosts[0]);
-    usleep(100000);
+    let_go();
     CHECK(host_begin(&more, 1, HOST_DEPTH));
     host_end(&more);
     for (int i = 1; i < MOST_HOSTS; i++) host_end(&hosts[i]);
+}
+
+/* A host at an address of its own for each domain of the target, and one at another address, which is rejected in its start-up
+ * until one of them has gone. Those that are there get their I/O queues all the while. */
+static void many_addresses(void) {
+    static struct host hosts[MOST_DOMAINS + 1];
+    static char addresses[MOST_DOMAINS + 1][INET_ADDRSTRLEN];
+    for (unsigned i = 0; i <= MOST_DOMAINS; i++) {
+        hosts[i] = new_host();
+        hosts[i].from = addresses[i];
+        snprintf(addresses[i], sizeof addresses[i], "127.0.%u.1", i);
+    }
+    struct host *more = &hosts[MOST_DOMAINS];
+    let_go();
+    for (int i = 0; i < MOST_DOMAINS; i++) CHECK(host_begin(&hosts[i], 0, 0));
+    CHECK(!host_open(more, 0, 32));
+    CHECK(why_rejected(more->queues[0]) == REJECT_NO_RESOURCES);
+    host_end(more);
+    CHECK(host_open(&hosts[7], 1, HOST_DEPTH) && host_connect(&hosts[7], 1) == 0);
+    host_end(&hosts[0]);
+    let_go();
+    CHECK(host_begin(more, 1, HOST_DEPTH));
+    for (int i = 1; i <= MOST_DOMAINS; i++) host_end(&hosts[i]);
 }
 
 /* A host that keeps silent is given up, another is not. */
@@ -497,10 +534,7 @@ static void slow_one(void) {
         map_blocks(queue, slot, IO_READ, 0, LONGEST, SGL_KEYED);
         host_submit(queue, slot);
     }
-    uint8_t *at;
-    size_t n;
-    CHECK(endpoint_due(&queue->endpoint, &at, &n) == IWARP_OK && send(queue->fd, at, n, MSG_NOSIGNAL) == (ssize_t)n);
-    CHECK(endpoint_wrote(&queue->endpoint, n) == IWARP_OK);
+    CHECK(host_write_out(queue) && !queue->ended);
     for (int i = 0; i < 30; i++) {
         CHECK(read_blocks(host.queues[1], (uint64_t)i, in, sizeof in, SGL_KEYED_INVALIDATE) == 0);
         usleep(100000);
@@ -537,7 +571,7 @@ static const struct {
     {"connects", connects},       {"many-hosts", many_hosts},
     {"keeps-alive", keeps_alive}, {"silent-ones", silent_ones},
     {"slow-one", slow_one},       {"cut-short", cut_short},
-    {"deallocates", deallocates},
+    {"deallocates", deallocates}, {"many-addresses", many_addresses},
 };
 
 int main(int n, char **words) {

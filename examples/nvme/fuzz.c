@@ -3,8 +3,8 @@
  *     fuzz CAPSULES [SEED]
  *
  * sends capsules that are valid but for what was changed at random: fields of the command, its descriptor, the data in the
- * capsule, its length; Connects; start-up frames. What the target writes must lie where its command said. Another host, which is
- * honest, writes and reads all the while, and must not notice. */
+ * capsule, its length; Connects; start-up frames; Writes to the sinks of another host. What the target writes must lie where its
+ * command said. The other host, which is honest, writes and reads all the while, and must not notice. */
 #include "host.h"
 #include "target.h"
 
@@ -229,13 +229,43 @@ static void live(void) {
 
 /* ---- the honest host */
 
+/* The STag of a sink that awaits its data. */
+static uint32_t find_sink(void) {
+    for (const struct queue *queue = target.queues; queue; queue = queue->next)
+        for (uint32_t i = 0; i < queue->commands_made; i++)
+            if (queue->state == CONNECTED && queue->commands[i].sink) return queue->commands[i].sink;
+    return 0;
+}
+
+/* While the honest host's data is awaited, a host at the same address, which has guessed the STag of the sink, writes there. */
+static void reach(struct host_queue *honest) {
+    static const uint8_t guess[HONEST_OCTETS];
+    struct host hostile = new_host();
+    uint32_t sink = 0;
+    if (!host_begin(&hostile, 1, HOSTILE_DEPTH)) die("a host is not served");
+    host_write_out(honest);
+    for (int i = 0; i < STEPS && sink == 0; i++) {
+        turn();
+        sink = find_sink();
+    }
+    if (sink == 0) die("the honest host's command has no sink");
+    if (endpoint_write(&hostile.queues[1]->endpoint, sink, 0, guess, sizeof guess) != IWARP_OK) die("no Write");
+    for (int i = 0; i < STEPS && host_step(hostile.queues[1], 0); i++) {
+    }
+    if (!hostile.queues[1]->ended) die("a Write to another host's sink is taken");
+    if (find_sink() != sink) die("another host's sink is gone");
+    host_end(&hostile);
+}
+
 static void check_honest(struct host *honest) {
     struct host_queue *queue = honest->queues[1];
     uint64_t from = random_number((uint32_t)honest->blocks - HONEST_OCTETS / LBA_OCTETS);
     host_blocks(host_command(queue, 0, IO_WRITE, NSID), from, HONEST_OCTETS / LBA_OCTETS);
     uint8_t *out = host_map(queue, 0, HONEST_OCTETS, SGL_KEYED_INVALIDATE);
     for (size_t i = 0; i < HONEST_OCTETS; i++) out[i] = (uint8_t)random_number(256);
-    if (host_do(queue, 0) != 0) die("the honest host cannot write");
+    host_submit(queue, 0);
+    reach(queue);
+    if (host_await(queue, 0) != 0) die("the honest host cannot write");
     host_blocks(host_command(queue, 1, IO_READ, NSID), from, HONEST_OCTETS / LBA_OCTETS);
     const uint8_t *in = host_map(queue, 1, HONEST_OCTETS, SGL_KEYED_INVALIDATE);
     if (host_do(queue, 1) != 0 || memcmp(in, out, HONEST_OCTETS) != 0) die("the honest host reads something else");

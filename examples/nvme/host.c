@@ -44,8 +44,7 @@ static void work(struct host_queue *queue) {
     } while (event.kind != IWARP_IDLE);
 }
 
-/* Writes what is due. Returns whether the socket took all of it. */
-static int write_out(struct host_queue *queue) {
+int host_write_out(struct host_queue *queue) {
     uint8_t *at;
     size_t n;
     for (;;) {
@@ -62,23 +61,25 @@ static int write_out(struct host_queue *queue) {
 }
 
 int host_step(struct host_queue *queue, int ms) {
-    uint8_t octets[MOST_DELIVERED];
-    short events = write_out(queue) ? POLLIN : POLLIN | POLLOUT;
+    uint8_t *at;
+    size_t room;
+    short events = host_write_out(queue) ? POLLIN : POLLIN | POLLOUT;
     struct pollfd polled = {queue->fd, events, 0};
     if (queue->host->turn) {
         queue->host->turn();
         ms = 0;
     }
     if (queue->ended || poll(&polled, 1, ms) <= 0) return !queue->ended;
-    ssize_t n = read(queue->fd, octets, sizeof octets);
+    must(endpoint_room(&queue->endpoint, &at, &room), "room");
+    ssize_t n = read(queue->fd, at, room);
     if (n < 0 && errno == EAGAIN) return 1;
     if (n <= 0) {
         queue->ended = 1;
         return 0;
     }
-    must(endpoint_deliver(&queue->endpoint, octets, (size_t)n), "deliver");
+    must(endpoint_came(&queue->endpoint, (size_t)n), "came");
     work(queue);
-    write_out(queue);
+    host_write_out(queue);
     work(queue);
     if (queue->endpoint.ended) queue->ended = 1;
     return !queue->ended;
@@ -88,10 +89,16 @@ int host_step(struct host_queue *queue, int ms) {
 
 static int connected_socket(const struct host *host) {
     struct sockaddr_in address = {.sin_family = AF_INET, .sin_port = htons((unsigned short)host->port)};
+    struct sockaddr_in from = {.sin_family = AF_INET};
     int one = 1, fd = socket(AF_INET, SOCK_STREAM | SOCK_NONBLOCK | SOCK_CLOEXEC, 0);
     inet_pton(AF_INET, host->address, &address.sin_addr);
     if (fd < 0) return -1;
     setsockopt(fd, IPPROTO_TCP, TCP_NODELAY, &one, sizeof one);
+    if (host->from) inet_pton(AF_INET, host->from, &from.sin_addr);
+    if (host->from && bind(fd, (struct sockaddr *)&from, sizeof from) != 0) {
+        close(fd);
+        return -1;
+    }
     if (connect(fd, (struct sockaddr *)&address, sizeof address) == 0 || errno == EINPROGRESS) return fd;
     close(fd);
     return -1;
@@ -118,7 +125,9 @@ int host_open(struct host *host, uint16_t id, uint16_t depth) {
     set_field(private_data + PRIVATE_QID, 2, id);
     set_field(private_data + PRIVATE_HRQSIZE, 2, depth);
     set_field(private_data + PRIVATE_HSQSIZE, 2, depth - 1u);
-    must(endpoint_open(&queue->endpoint, IWARP_INITIATOR, host->options, host->mulpdu, private_data, sizeof private_data), "open");
+    struct opening opening = {IWARP_INITIATOR, host->options, host->mulpdu, private_data, sizeof private_data};
+    must(endpoint_handle(&queue->handle, 1), "handle");
+    must(endpoint_open(&queue->endpoint, &queue->handle, 1, &opening), "open");
     for (int i = 0; i < depth; i++) {
         must(iwarp_buffer_new(CQE_OCTETS, &queue->response), "buffer_new");
         must(endpoint_receive(&queue->endpoint, &queue->response), "receive");
@@ -137,6 +146,7 @@ void host_close(struct host *host, uint16_t id) {
     for (int i = 0; i < queue->depth; i++) iwarp_buffer_free(&queue->slots[i].buffer);
     iwarp_buffer_free(&queue->response);
     endpoint_close(&queue->endpoint);
+    iwarp_free(&queue->handle);
     free(queue->slots);
     free(queue);
     host->queues[id] = 0;
@@ -201,13 +211,17 @@ void host_submit(struct host_queue *queue, uint16_t slot) {
         must(code, "send");
 }
 
-int host_do(struct host_queue *queue, uint16_t slot) {
+int host_await(struct host_queue *queue, uint16_t slot) {
     struct slot *it = &queue->slots[slot];
-    host_submit(queue, slot);
     for (int ms = 0; !it->answered && ms < HOST_WAIT_MS; ms++)
         if (!host_step(queue, 1)) return -1;
     host_unmap(queue, slot);
     return it->answered ? it->status : -1;
+}
+
+int host_do(struct host_queue *queue, uint16_t slot) {
+    host_submit(queue, slot);
+    return host_await(queue, slot);
 }
 
 void host_blocks(uint8_t *sqe, uint64_t from, uint32_t count) {

@@ -25,6 +25,7 @@ struct slot {
 
 struct host_queue {
     struct host *host;
+    struct iwarp handle;
     struct endpoint endpoint;
     int fd, opened, ended; /* `ended`: by the target, or by a fault */
     uint16_t id, depth;
@@ -36,6 +37,7 @@ struct host_queue {
 
 struct host {
     const char *address, *nqn;
+    const char *from; /* the address of its own that it connects from; null: any */
     unsigned port;
     uint32_t options, mulpdu, keep_alive;
     uint16_t controller;
@@ -73,7 +75,11 @@ void host_submit(struct host_queue *queue, uint16_t slot);
 /* Writes and reads what can be, and waits at most `ms` for something. Returns 0 once the connection has ended. */
 int host_step(struct host_queue *queue, int ms);
 
-/* Sends the slot's capsule and waits for the response. Returns its status, or -1. */
+/* Only writes what is due. Returns whether the socket took all. */
+int host_write_out(struct host_queue *queue);
+
+/* Waits for the response to the slot's capsule, or sends the capsule and waits. Returns its status, or -1. */
+int host_await(struct host_queue *queue, uint16_t slot);
 int host_do(struct host_queue *queue, uint16_t slot);
 
 /* Describes blocks in a Read's, Write's or Write Zeroes' entry. */

@@ -41,17 +41,11 @@ static uint16_t check_read(struct command *command) {
     if (status != STATUS_SUCCESS) return status;
     command->direction = TO_HOST;
     command->length = octets_named(command);
-    if (command->length > MOST_TRANSFER) return invalid(STATUS_INVALID_FIELD);
-    command->data = store_address(&command->queue->target->store, first_octet(command));
-    return STATUS_SUCCESS;
+    return command->length > MOST_TRANSFER ? invalid(STATUS_INVALID_FIELD) : STATUS_SUCCESS;
 }
 
-/* What is in memory goes from there. */
 static void run_read(struct command *command) {
-    if (store_address(&command->queue->target->store, first_octet(command)))
-        command_complete(command, STATUS_SUCCESS);
-    else
-        command_store(command, JOB_READ, first_octet(command), command->length);
+    command_store(command, JOB_READ, first_octet(command), command->length);
 }
 
 static uint16_t check_write(struct command *command) {

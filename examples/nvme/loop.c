@@ -25,11 +25,13 @@ static void close_oldest(struct target *target) {
 }
 
 static void accept_all(struct target *target) {
+    struct sockaddr_in from;
+    socklen_t n = sizeof from;
     int one = 1;
-    for (int fd; (fd = accept4(target->listener, 0, 0, SOCK_NONBLOCK | SOCK_CLOEXEC)) >= 0;) {
+    for (int fd; (fd = accept4(target->listener, (struct sockaddr *)&from, &n, SOCK_NONBLOCK | SOCK_CLOEXEC)) >= 0;) {
         if (target->starting >= MOST_STARTING) close_oldest(target);
         setsockopt(fd, IPPROTO_TCP, TCP_NODELAY, &one, sizeof one);
-        struct queue *queue = queue_open(target, fd);
+        struct queue *queue = queue_open(target, fd, from.sin_addr.s_addr);
         if (!queue)
             close(fd);
         else if (!watch(target, fd, queue))
@@ -138,6 +140,10 @@ int target_open(struct target *target, const struct options *options) {
         perror(options->file ? options->file : "memory for the store");
         return 0;
     }
+    if (endpoint_handle(&target->handle, MOST_DOMAINS) != IWARP_OK) {
+        fprintf(stderr, "no memory\n");
+        return 0;
+    }
     target->epoll = epoll_create1(EPOLL_CLOEXEC);
     if (target->epoll < 0 || !begin_listening(target) || !watch(target, target->listener, &target->listener) ||
         !watch(target, target->store.told, &target->store)) {
@@ -153,4 +159,5 @@ void target_close(struct target *target) {
     while (target->queues && target_turn(target, 0)) {
     }
     close(target->epoll);
+    iwarp_free(&target->handle);
 }

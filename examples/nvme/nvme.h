@@ -114,7 +114,8 @@ enum { DSM_DEALLOCATE = 4, MOST_RANGES = 256, RANGE_OCTETS = 16, RANGE_NLB = 4, 
 
 /* The private data of the MPA Request and Reply; a rejection's has a format and a status. */
 enum { PRIVATE_OCTETS = 32, PRIVATE_RECFMT = 0, PRIVATE_QID = 2, PRIVATE_HRQSIZE = 4, PRIVATE_HSQSIZE = 6, PRIVATE_CRQSIZE = 2 };
-enum { REJECT_OCTETS = 4, REJECT_STATUS = 2, REJECT_LENGTH = 1, REJECT_RECFMT = 2, REJECT_HRQSIZE = 4, REJECT_HSQSIZE = 5 };
+enum { REJECT_OCTETS = 4, REJECT_STATUS = 2 };
+enum { REJECT_LENGTH = 1, REJECT_RECFMT = 2, REJECT_HSQSIZE = 4, REJECT_HRQSIZE = 5, REJECT_NO_RESOURCES = 6 };
 
 /* Reads a field of n octets. */
 static inline uint64_t field(const uint8_t *at, int n) {

@@ -9,6 +9,30 @@ void queue_enter(struct queue *queue, enum queue_state state) {
     queue->since = queue->target->now;
 }
 
+/* ---- domains */
+
+/* Takes a place in a domain: one that has queues of this address and room for more, or one that is free. Returns 0 if there is
+ * none. */
+static uint32_t enter_domain(struct target *target, uint32_t address) {
+    uint32_t found = 0;
+    for (uint32_t number = MOST_DOMAINS; number > 0; number--) {
+        const struct domain *it = &target->domains[number];
+        int is_joined = it->queues > 0 && it->queues < DOMAIN_QUEUES && it->address == address;
+        if (it->queues == 0 || is_joined) found = number;
+        if (is_joined) break;
+    }
+    if (found == 0) return 0;
+    target->domains[found].address = address;
+    target->domains[found].queues++;
+    return found;
+}
+
+static void leave_domain(struct queue *queue) {
+    if (queue->domain) queue->target->domains[queue->domain].queues--;
+}
+
+/* ---- a queue's memory */
+
 /* Takes the queue's commands, for as many receive buffers, and posts these. Returns whether there was memory. */
 static int make_commands(struct queue *queue, uint32_t count) {
     queue->commands = calloc(count, sizeof *queue->commands);
@@ -35,17 +59,26 @@ static uint32_t mulpdu_of(const struct target *target, int fd) {
     return segment - FRAMING > MOST_MULPDU ? MOST_MULPDU : (uint32_t)(segment - FRAMING);
 }
 
-struct queue *queue_open(struct target *target, int fd) {
-    uint8_t none = 0;
+/* A queue without a domain is rejected before it opens, so it may be in any. */
+static int open_stream(struct queue *queue) {
+    struct target *target = queue->target;
+    static const uint8_t none = 0;
+    struct opening opening = {IWARP_RESPONDER, target->options.options, mulpdu_of(target, queue->fd), &none, 0};
+    return endpoint_open(&queue->endpoint, &target->handle, queue->domain ? queue->domain : 1, &opening) == IWARP_OK;
+}
+
+struct queue *queue_open(struct target *target, int fd, uint32_t address) {
     struct queue *queue = calloc(1, sizeof *queue);
     if (!queue) return 0;
-    if (endpoint_open(&queue->endpoint, IWARP_RESPONDER, target->options.options, mulpdu_of(target, fd), &none, 0) != IWARP_OK) {
+    queue->target = target;
+    queue->fd = fd;
+    queue->domain = enter_domain(target, address);
+    if (!open_stream(queue)) {
         endpoint_close(&queue->endpoint);
+        leave_domain(queue);
         free(queue);
         return 0;
     }
-    queue->target = target;
-    queue->fd = fd;
     queue->state = AWAITS_REQUEST;
     queue->since = queue->moved = target->now;
     queue->starting.last = &queue->starting.first;
@@ -77,11 +110,15 @@ void queue_free(struct queue *queue) {
     for (uint32_t i = 0; i < queue->commands_made; i++) {
         iwarp_buffer_free(&queue->commands[i].capsule);
         iwarp_buffer_free(&queue->commands[i].buffer);
+        if (queue->commands[i].sink) endpoint_drop(&queue->endpoint, queue->commands[i].sink);
     }
+    for (uint32_t i = 0; i < queue->count; i++) iwarp_buffer_free(&queue->posted[(queue->first + i) % MOST_POSTED].written.buffer);
+    command_free_spares(queue);
     *queue->link = queue->next;
     if (queue->next) queue->next->link = queue->link;
     queue->target->queues_made--;
     endpoint_close(&queue->endpoint);
+    leave_domain(queue);
     free(queue->commands);
     free(queue);
 }
@@ -108,7 +145,9 @@ static void answer_request(struct queue *queue) {
         return;
     }
     uint32_t depth = (uint32_t)field(asked + PRIVATE_HSQSIZE, 2) + 1, receives = (uint32_t)field(asked + PRIVATE_HRQSIZE, 2);
-    if (field(asked + PRIVATE_RECFMT, 2) != 0) {
+    if (queue->domain == 0) {
+        reject(queue, REJECT_NO_RESOURCES);
+    } else if (field(asked + PRIVATE_RECFMT, 2) != 0) {
         reject(queue, REJECT_RECFMT);
     } else if (depth < 2 || depth > QUEUE_DEPTH) {
         reject(queue, REJECT_HSQSIZE);
@@ -142,10 +181,12 @@ static void take_done(struct queue *queue) {
     struct posted posted = queue->posted[queue->first];
     queue->first = (queue->first + 1) % MOST_POSTED;
     queue->count--;
-    queue->written -= posted.n;
-    if (!posted.command) return;
-    queue->reads--;
-    command_fetched(posted.command);
+    if (posted.command) {
+        queue->reads--;
+        command_fetched(posted.command);
+    } else if (posted.written.size > 0) {
+        command_keep(queue, &posted.written);
+    }
 }
 
 static void act(struct queue *queue, const struct iwarp_event *event) {
@@ -241,10 +282,12 @@ void queue_run(struct queue *queue) {
 }
 
 void queue_readable(struct queue *queue) {
-    uint8_t octets[MOST_DELIVERED];
-    ssize_t n = read(queue->fd, octets, sizeof octets);
+    uint8_t *at;
+    size_t room;
+    int lent = endpoint_room(&queue->endpoint, &at, &room) == IWARP_OK;
+    ssize_t n = lent ? read(queue->fd, at, room) : 0;
     if (n < 0 && (errno == EAGAIN || errno == EINTR)) return;
-    if (n <= 0 || endpoint_deliver(&queue->endpoint, octets, (size_t)n) != IWARP_OK)
+    if (n <= 0 || endpoint_came(&queue->endpoint, (size_t)n) != IWARP_OK)
         queue_close(queue);
     else
         queue_run(queue);

@@ -178,10 +178,6 @@ struct job *store_done(struct store *store) {
     return done;
 }
 
-uint8_t *store_address(const struct store *store, uint64_t at) {
-    return store->ram ? store->ram + at : 0;
-}
-
 static int open_file(struct store *store, const char *path) {
     store->fd = open(path, O_RDWR | O_CLOEXEC);
     if (store->fd < 0) {

@@ -20,8 +20,8 @@ static const char help[] =
     "  --crc            use CRCs\n"
     "  --verbose        a line for each host and queue, and for what ends them\n"
     "\n"
-    "It takes 255 hosts at once, each with at most 7 I/O queues of depth 128. A connection takes at most 10 MiB: 4 for buffers of\n"
-    "its commands, 4 for data under way to the host, 1 for capsules, and 1 for the library.\n";
+    "It takes hosts of 255 addresses at once, and 255 hosts, each with at most 7 I/O queues of depth 128. A connection takes at most\n"
+    "6 MiB: 4 for its commands' data, 1 for capsules, and 1 for the library.\n";
 
 static int fail(const char *word) {
     fprintf(stderr, "target: %s\n%s", word, help);

@@ -1,5 +1,5 @@
-/* What the files of the target share: a target has a store, controllers (one for each host that has connected) and queues (one
- * for each connection); a queue has its commands. */
+/* What the files of the target share: a target has a store, domains, controllers (one for each Connect of an admin queue) and
+ * queues (one for each connection); a queue has its commands. */
 #ifndef TARGET_H
 #define TARGET_H
 
@@ -18,11 +18,11 @@ enum {
     MDTS = 8, /* the longest transfer is 2 to that many pages */
     MOST_TRANSFER = PAGE_OCTETS << MDTS,
     MOST_DATA = 4 * MOST_TRANSFER, /* of a queue: buffers for its commands' data */
-    MOST_WRITTEN = 4 * MOST_TRANSFER, /* of a queue: Writes that are posted and not yet done */
     MOST_CONTROLLERS = 255,
-    MOST_IO_QUEUES = 7, /* of a controller: a queue registers a region for each command, and a domain has 1,024 */
+    MOST_IO_QUEUES = 7, /* of a controller */
+    DOMAIN_QUEUES = 1 + MOST_IO_QUEUES, /* of 128 commands, each of which may have a region: a domain has 1,024 */
     MOST_STARTING = 256, /* connections that have not got as far as Connect: of more, the oldest is closed */
-    MOST_QUEUES = MOST_CONTROLLERS * (1 + MOST_IO_QUEUES) + MOST_STARTING,
+    MOST_QUEUES = MOST_CONTROLLERS * DOMAIN_QUEUES + MOST_STARTING,
     MOST_ASYNC_EVENTS = 4,
     KEEP_ALIVE_UNIT = 1000 /* ms */
 };
@@ -55,9 +55,6 @@ struct store {
 /* Opens a file or block device, or takes memory if the path is null, and starts workers. Returns whether it could. */
 int store_open(struct store *store, const char *path, uint64_t ram_octets, int workers);
 
-/* The address of the store's octets, if they are in memory; else null. */
-uint8_t *store_address(const struct store *store, uint64_t at);
-
 /* Begins a job. Returns 1 if it is done; else a worker does it, and store_done gives it back. */
 int store_begin(struct store *store, struct job *job);
 
@@ -88,10 +85,10 @@ struct command {
     size_t inside; /* octets of data in the capsule */
     enum direction direction;
     uint32_t length; /* of its data */
-    uint8_t *data; /* in `buffer`, in the capsule or in the store */
-    struct iwarp_buffer buffer; /* kept for the next command */
-    size_t size; /* of the buffer */
-    uint32_t sink; /* the buffer's STag, while the host's data is read */
+    uint8_t *data; /* in `buffer` or in the capsule */
+    struct iwarp_buffer buffer;
+    size_t size; /* of the buffer; 0: the command has none */
+    uint32_t sink; /* the buffer's STag, while the host's data is read; else 0 */
     uint16_t status;
     uint64_t result;
 };
@@ -101,11 +98,16 @@ struct list {
     struct command *first, **last;
 };
 
-/* What was posted, in order, until the library has handed it back. */
+/* A buffer of a queue that no command has. */
+struct spare {
+    struct iwarp_buffer buffer;
+    size_t size;
+};
+
+/* What was posted, in order, until the library has handed it back: all 0 of a Send. */
 struct posted {
-    uint32_t message; /* IWARP_MESSAGE_SEND and so on */
-    uint32_t n; /* octets of a Write */
     struct command *command; /* of a Read */
+    struct spare written; /* the buffer of a Write, of which a copy was posted */
 };
 
 enum queue_state { AWAITS_REQUEST, AWAITS_CONNECT, CONNECTED, DRAINS, CLOSED };
@@ -115,6 +117,7 @@ struct queue {
     struct queue *next, **link; /* among the target's */
     struct controller *controller; /* of a connected one */
     struct endpoint endpoint;
+    uint32_t domain; /* 0: there was none, and it is rejected */
     int fd;
     enum queue_state state;
     uint64_t since; /* when the state began, in ms */
@@ -132,7 +135,17 @@ struct queue {
     struct posted posted[MOST_POSTED];
     uint32_t first, count; /* of those */
     uint32_t reads, jobs; /* Reads that are posted; commands that workers have */
-    size_t held, written; /* octets of the commands' buffers; of posted Writes */
+    struct spare spares[MOST_COMMANDS];
+    uint32_t spare_count;
+    size_t held; /* octets of the queue's buffers */
+};
+
+/* ---- domains */
+
+/* The queues of a protection domain, which come from one address. */
+struct domain {
+    uint32_t address;
+    uint32_t queues; /* 0: the domain is free */
 };
 
 /* ---- controllers */
@@ -165,6 +178,8 @@ struct target {
     int epoll, listener;
     unsigned port;
     uint64_t now; /* ms */
+    struct iwarp handle; /* of all queues */
+    struct domain domains[MOST_DOMAINS + 1]; /* by number, from 1 */
     struct queue *queues; /* the newest first */
     uint32_t queues_made, starting; /* queues; those that have not got as far as Connect */
     int sweep; /* a queue was closed, and is to be freed */
@@ -184,7 +199,7 @@ int target_turn(struct target *target, int most_ms);
 void target_close(struct target *target);
 
 /* queue.c */
-struct queue *queue_open(struct target *target, int fd);
+struct queue *queue_open(struct target *target, int fd, uint32_t address);
 void queue_readable(struct queue *queue);
 void queue_run(struct queue *queue); /* does all that can be done now */
 void queue_enter(struct queue *queue, enum queue_state state);
@@ -197,6 +212,8 @@ void command_complete(struct command *command, uint16_t status);
 void command_store(struct command *command, enum job_kind kind, uint64_t at, uint64_t n); /* has the store work on its data */
 void command_stored(struct job *job); /* the store has */
 void command_fetched(struct command *command); /* its Read is done */
+void command_keep(struct queue *queue, struct spare *spare); /* keeps a buffer for the queue's next commands */
+void command_free_spares(struct queue *queue);
 void command_forget(struct command *command); /* it is never answered */
 void commands_go_on(struct queue *queue); /* starts and answers those that can be */
 struct queue *queue_of_job(struct job *job);
