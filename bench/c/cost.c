@@ -1,5 +1,5 @@
 /* What calls cost through the C interface, beside the same calls from Rattle (crates/bench_handle), in one run, by turns: the
- * median of many rounds of each, in processor time. */
+ * median of many rounds of each, in processor time. The status is 1 if a limit is missed. */
 #define _POSIX_C_SOURCE 199309L
 #include "../../include/iwarp.h"
 #include <stdio.h>
@@ -7,10 +7,11 @@
 #include <string.h>
 #include <time.h>
 
-enum { CALLS = 200000, ROUNDS = 101, WRITES = 200, REGION = 65536 };
+enum { CALLS = 200000, ROUNDS = 101, MESSAGES = 200, REGION = 65536, MOST_MORE_NS = 20, MOST_MORE_PERCENT = 3 };
 
 uint64_t handle_bench_idle(uint64_t calls);
 uint64_t handle_bench_write(const uint8_t *frames, size_t n, uint64_t writes);
+uint64_t handle_bench_send(_Bool is_send, const uint8_t *octets, size_t n, uint64_t messages);
 
 static uint8_t octets[REGION], written[REGION], frames[2 * REGION], frame[66000];
 
@@ -23,11 +24,17 @@ static double now(void) {
     return 1e9 * (double)time.tv_sec + (double)time.tv_nsec;
 }
 
+static void must(int is_so, const char *what) {
+    if (is_so) return;
+    fprintf(stderr, "%s\n", what);
+    exit(2);
+}
+
 static void opened(struct iwarp *end, uint32_t *stag) {
     iwarp_new(end);
     iwarp_add_domain(end, 1);
     iwarp_register(end, 1, 0, octets, REGION, IWARP_WRITE, stag);
-    iwarp_open(end, 0, 1, IWARP_PRESET, 0, octets, 0);
+    must(iwarp_open(end, 0, 1, IWARP_PRESET, 0, octets, 0) == IWARP_OK, "open");
 }
 
 /* Works until there is nothing to do. */
@@ -35,6 +42,8 @@ static void work_off(struct iwarp *end, working *work) {
     struct iwarp_event event;
     while (work(end, 0, &event) == IWARP_OK && event.kind != IWARP_IDLE) {}
 }
+
+/* ---- a call with nothing to do */
 
 static double idle_in_c(void) {
     struct iwarp end = IWARP_CLOSED;
@@ -54,6 +63,8 @@ static double idle_in_rattle(void) {
     return (now() - from) / CALLS;
 }
 
+/* ---- receiving */
+
 /* The octets of the last Write must have been placed. */
 static double writes_in_c(size_t n, working *work) {
     static uint8_t placed[REGION];
@@ -61,20 +72,20 @@ static double writes_in_c(size_t n, working *work) {
     uint32_t stag, kept;
     double from = now();
     opened(&end, &stag);
-    for (uint64_t i = 0; i < WRITES; i++) {
+    for (uint64_t i = 0; i < MESSAGES; i++) {
         iwarp_deliver(&end, 0, (uint32_t)(i * n), frames, n, &kept);
         work_off(&end, work);
     }
     double took = now() - from;
-    if (iwarp_load(&end, stag, 0, placed, REGION) != IWARP_OK || memcmp(placed, written, REGION) != 0) exit(1);
+    must(iwarp_load(&end, stag, 0, placed, REGION) == IWARP_OK && memcmp(placed, written, REGION) == 0, "other octets were placed");
     iwarp_free(&end);
-    return took / WRITES;
+    return took / MESSAGES;
 }
 
 static double writes_in_rattle(size_t n) {
     double from = now();
-    if (handle_bench_write(frames, n, WRITES) == 0) exit(1);
-    return (now() - from) / WRITES;
+    must(handle_bench_write(frames, n, MESSAGES) > 0, "nothing was placed in Rattle");
+    return (now() - from) / MESSAGES;
 }
 
 /* The frames of a Write of the whole region. */
@@ -94,6 +105,64 @@ static size_t emitted(void) {
     return all;
 }
 
+/* ---- sending */
+
+/* How a message is posted: its octets are copied, or the buffer's own. */
+enum posting { COPIED_WRITE, COPIED_SEND, WRITE, SEND };
+
+static int32_t post(struct iwarp *end, enum posting posting, uint32_t stag, struct iwarp_buffer *payload) {
+    switch (posting) {
+    case COPIED_WRITE:
+        return iwarp_post_write(end, 0, stag, 0, written, REGION, 0);
+    case COPIED_SEND:
+        return iwarp_post_send(end, 0, written, REGION, 0, 0, 0);
+    case WRITE:
+        return iwarp_post_write_buffer(end, 0, stag, 0, payload, 0);
+    default:
+        return iwarp_post_send_buffer(end, 0, payload, 0, 0, 0);
+    }
+}
+
+/* Emits all that is due. Returns how many octets that is. */
+static size_t emit_all(struct iwarp *end, struct iwarp_buffer *out) {
+    struct iwarp_emission emission;
+    uint8_t *at;
+    size_t n;
+    iwarp_buffer_truncate(out, 0);
+    while (iwarp_emit_onto(end, 0, out, &emission) == IWARP_OK && emission.kind == IWARP_FRAME) {}
+    iwarp_buffer_at(out, &at, &n);
+    return n;
+}
+
+static double sends_in_c(enum posting posting, uint64_t *emitted) {
+    struct iwarp end = IWARP_CLOSED;
+    struct iwarp_buffer out = IWARP_NO_BUFFER, payload = IWARP_NO_BUFFER;
+    uint32_t stag;
+    double from = now();
+    opened(&end, &stag);
+    iwarp_buffer_new(0, &out);
+    iwarp_buffer_new(REGION, &payload);
+    *emitted = 0;
+    for (int i = 0; i < MESSAGES; i++) {
+        must(post(&end, posting, stag, &payload) == IWARP_OK, "post");
+        *emitted += emit_all(&end, &out);
+        work_off(&end, iwarp_work_on);
+        if (posting == WRITE || posting == SEND) must(iwarp_fetch_sent(&end, 0, &payload) == IWARP_OK, "fetch_sent");
+    }
+    iwarp_buffer_free(&payload);
+    iwarp_buffer_free(&out);
+    iwarp_free(&end);
+    return (now() - from) / MESSAGES;
+}
+
+static double sends_in_rattle(_Bool is_send, uint64_t emitted) {
+    double from = now();
+    must(handle_bench_send(is_send, written, REGION, MESSAGES) == emitted, "other octets were emitted in Rattle");
+    return (now() - from) / MESSAGES;
+}
+
+/* ---- times */
+
 static int above(const void *a, const void *b) {
     double x = *(const double *)a, y = *(const double *)b;
     return (x > y) - (x < y);
@@ -104,20 +173,44 @@ static double median(double *times) {
     return times[ROUNDS / 2];
 }
 
+/* Prints by how much a time is above the same in Rattle. Returns whether that is more than `most` percent; 0 is no limit. */
+static int tell(const char *what, double *times, double *rattle, double most) {
+    double time = median(times), base = median(rattle), more = 100 * (time / base - 1);
+    int is_missed = most > 0 && more > most;
+    printf("%s: %.0f ns in Rattle, %.0f ns in C, %+.1f %%%s\n", what, base, time, more, is_missed ? ": MISSED" : "");
+    return is_missed;
+}
+
+static int tell_calls(double *c, double *rattle) {
+    double call = median(c), same = median(rattle);
+    int is_missed = call - same > MOST_MORE_NS;
+    printf("a call with nothing to do: %.1f ns in Rattle, %.1f ns in C, %.1f ns more%s\n", same, call, call - same,
+           is_missed ? ": MISSED" : "");
+    return is_missed;
+}
+
 int main(void) {
-    static double c[ROUNDS], rattle[ROUNDS], stepwise[ROUNDS], at_once[ROUNDS], write[ROUNDS];
+    static double idle[ROUNDS], idle_rattle[ROUNDS], stepwise[ROUNDS], at_once[ROUNDS], write_rattle[ROUNDS];
+    static double sent[SEND + 1][ROUNDS], sent_rattle[2][ROUNDS];
     size_t n = emitted();
     for (int i = 0; i < ROUNDS; i++) {
-        c[i] = idle_in_c();
-        rattle[i] = idle_in_rattle();
+        uint64_t emitted_octets[SEND + 1];
+        idle[i] = idle_in_c();
+        idle_rattle[i] = idle_in_rattle();
         stepwise[i] = writes_in_c(n, iwarp_work);
         at_once[i] = writes_in_c(n, iwarp_work_on);
-        write[i] = writes_in_rattle(n);
+        write_rattle[i] = writes_in_rattle(n);
+        for (enum posting posting = COPIED_WRITE; posting <= SEND; posting++)
+            sent[posting][i] = sends_in_c(posting, &emitted_octets[posting]);
+        sent_rattle[0][i] = sends_in_rattle(0, emitted_octets[WRITE]);
+        sent_rattle[1][i] = sends_in_rattle(1, emitted_octets[SEND]);
     }
-    double call = median(c), same = median(rattle), one = median(stepwise), all = median(at_once), base = median(write);
-    printf("a call with nothing to do: %.1f ns in C, %.1f ns in Rattle, %.1f ns more\n", call, same, call - same);
-    printf("a Write of 64 KiB, delivered and worked off: %.0f ns in Rattle\n", base);
-    printf("  by iwarp_work_on: %.0f ns, %+.1f %%\n", all, 100 * (all / base - 1));
-    printf("  by iwarp_work, step by step: %.0f ns, %+.1f %%\n", one, 100 * (one / base - 1));
-    return 0;
+    int missed = tell_calls(idle, idle_rattle);
+    missed += tell("a Write of 64 KiB, received by iwarp_work_on", at_once, write_rattle, MOST_MORE_PERCENT);
+    tell("  by iwarp_work, step by step", stepwise, write_rattle, 0);
+    missed += tell("a Write of 64 KiB, sent from a buffer", sent[WRITE], sent_rattle[0], MOST_MORE_PERCENT);
+    tell("  copied when it is posted", sent[COPIED_WRITE], sent_rattle[0], 0);
+    missed += tell("a Send of 64 KiB, sent from a buffer", sent[SEND], sent_rattle[1], MOST_MORE_PERCENT);
+    tell("  copied when it is posted", sent[COPIED_SEND], sent_rattle[1], 0);
+    return missed > 0;
 }

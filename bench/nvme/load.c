@@ -3,9 +3,10 @@
  *     load nvme PORT read|write OCTETS DEPTH MS     a host of the target (examples/nvme), one I/O queue
  *     load plain PORT read|write OCTETS DEPTH MS    the same of the plain server below
  *     load serve MIB                                the plain server: blocks in memory, over TCP, with headers of 16 octets. It
- *                                                   prints `port N`, and serves one connection after the other
+ *                                                   prints `port N`, and serves one connection
  *
- * A load prints how many commands it did in that time, and its processor time in ns for each. */
+ * A load prints how many commands it did in MS milliseconds, and its processor time in ns for each. The time begins once the
+ * connections are made. */
 #include "../../examples/nvme/host.h"
 
 enum { BUFFERED = 262144, HEAD = 16, MOST_DEPTH = 128, AT_OP = 0, AT_TAG = 2, AT_N = 4, AT_BLOCK = 8, PARTS = 64 };
@@ -26,8 +27,14 @@ struct load {
     int writes;
     uint32_t octets, depth;
     uint64_t blocks, next;
-    uint64_t commands, until;
+    uint64_t ms, commands;
+    uint64_t until, spent; /* when the time is over; processor time, before it began */
 };
+
+static void begin(struct load *load) {
+    load->until = now_ns(CLOCK_MONOTONIC) + load->ms * 1000000;
+    load->spent = now_ns(CLOCK_PROCESS_CPUTIME_ID);
+}
 
 static uint64_t next_block(struct load *load) {
     uint64_t count = load->octets / HOST_LBA, from = load->next;
@@ -62,8 +69,9 @@ static void run_nvme(unsigned port, struct load *load) {
         host_command(queue, slot, 0, 0);
         memset(host_map(queue, slot, load->octets, SGL_KEYED), slot, load->octets);
         host_unmap(queue, slot);
-        submit(queue, slot, load);
     }
+    begin(load);
+    for (uint16_t slot = 0; slot < load->depth; slot++) submit(queue, slot, load);
     while (!is_over(load)) {
         if (!host_step(queue, 100)) die("the target has ended the connection");
         for (uint16_t slot = 0; slot < load->depth; slot++) {
@@ -159,7 +167,10 @@ static void run_plain(unsigned port, struct load *load) {
     pipe.fd = socket(AF_INET, SOCK_STREAM, 0);
     setsockopt(pipe.fd, IPPROTO_TCP, TCP_NODELAY, &one, sizeof one);
     if (connect(pipe.fd, (struct sockaddr *)&address, sizeof address) != 0) die("connect");
-    uint8_t *buffers = calloc(load->depth, load->octets);
+    uint8_t *buffers = malloc((size_t)load->depth * load->octets);
+    if (!buffers) die("memory");
+    memset(buffers, 1, (size_t)load->depth * load->octets);
+    begin(load);
     for (uint16_t tag = 0; tag < load->depth; tag++) {
         set_head(heads[tag], load->writes, tag, load->octets, next_block(load));
         add(&pipe, heads[tag], HEAD);
@@ -203,14 +214,13 @@ int main(int n, char **words) {
     if (n != 7) return 2;
     unsigned port = (unsigned)strtoull(words[2], 0, 10);
     struct load load = {.writes = strcmp(words[3], "write") == 0, .octets = (uint32_t)strtoull(words[4], 0, 10),
-        .depth = (uint32_t)strtoull(words[5], 0, 10), .blocks = (64u << 20) / HOST_LBA};
-    uint64_t ms = strtoull(words[6], 0, 10), began = now_ns(CLOCK_PROCESS_CPUTIME_ID);
-    load.until = now_ns(CLOCK_MONOTONIC) + ms * 1000000;
+        .depth = (uint32_t)strtoull(words[5], 0, 10), .ms = strtoull(words[6], 0, 10), .blocks = (64u << 20) / HOST_LBA};
+    if (load.depth == 0 || load.depth > MOST_DEPTH || load.octets < HOST_LBA || load.octets > BUFFERED - HEAD) return 2;
     if (strcmp(words[1], "nvme") == 0)
         run_nvme(port, &load);
     else
         run_plain(port, &load);
-    uint64_t spent = now_ns(CLOCK_PROCESS_CPUTIME_ID) - began;
+    uint64_t spent = now_ns(CLOCK_PROCESS_CPUTIME_ID) - load.spent;
     printf("%llu %llu\n", (unsigned long long)load.commands, (unsigned long long)(spent / (load.commands + 1)));
     return 0;
 }

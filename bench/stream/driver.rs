@@ -317,7 +317,7 @@ fn main() {
     judge_rows(&rows, &mut wanted);
     judge_received(&rows, &early, &mut wanted);
     for held in &idle {
-        wanted.at_most(&format!("octets of {}", held.name), held.ours, MAX_IDLE);
+        wanted.at_most(&format!("octets of {}", held.name), held.ours.round(), MAX_IDLE);
     }
     judge_limits(&rows, &limits, &mut wanted);
     judge_growth(turns / 10 + 1, &mut wanted);

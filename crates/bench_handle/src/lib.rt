@@ -1,7 +1,11 @@
 //! What bench/c compares with: the calls that it makes through the C interface, made from Rattle.
 #![tactic(auto)]
 
-use iw_endpoint::{Config, Endpoint, Establishment, MAX_PLACE, PrivateData, Rights, Role, Step};
+use bytes::Bytes;
+use iw_endpoint::{
+    Config, Emission, Endpoint, Establishment, MAX_PLACE, Message, PrivateData, Request, Rights,
+    Role, Stag, Step,
+};
 use std::alloc::Global;
 
 const STREAM: u32 = 0;
@@ -85,4 +89,79 @@ pub extern "C" fn handle_bench_write(alloc: Global, frames: &[u8], writes: u64) 
         steps = steps.wrapping_add(work(&mut endpoint));
     }
     steps
+}
+
+// Appends the next frame. Returns whether one was due.
+fn emit(endpoint: &mut Endpoint, out: &mut Vec<u8>) -> bool {
+    match endpoint.sent(STREAM) {
+        Ok(sent) if sent <= MAX_PLACE => {}
+        _ => return false,
+    }
+    match endpoint.emit(STREAM, out) {
+        Ok(Emission::Frame { .. }) => true,
+        Ok(_) | Err(_) => false,
+    }
+}
+
+// Appends all frames that are due.
+fn emit_all(endpoint: &mut Endpoint, out: &mut Vec<u8>) {
+    for _ in 0..1_000_000u64 {
+        if !emit(endpoint, out) {
+            return;
+        }
+    }
+}
+
+// A Send, or a Write to the first region of the peer's first domain.
+fn message(is_send: bool, octets: Bytes) -> Message<Bytes> {
+    if is_send {
+        return Message::Send {
+            octets,
+            solicited: false,
+            invalidate: None,
+        };
+    }
+    Message::Write {
+        stag: Stag::from_octets([1, 0, 0, 0]),
+        to: 0,
+        octets,
+    }
+}
+
+// Posts a message of these octets, emits all its frames, and works. Returns how many octets were emitted.
+fn carry(endpoint: &mut Endpoint, out: &mut Vec<u8>, is_send: bool, octets: Bytes) -> u64 {
+    match endpoint.post(STREAM, Request::Message(message(is_send, octets))) {
+        Ok(()) => {}
+        Err(_) => return 0,
+    }
+    out.clear();
+    emit_all(endpoint, out);
+    let _ = work(endpoint);
+    out.len() as u64
+}
+
+/// Posts a Send, or else a Write, of these octets `messages` times, and each time emits all its frames and works. Returns how
+/// many octets were emitted.
+#[unsafe(no_mangle)]
+pub extern "C" fn handle_bench_send(
+    alloc: Global,
+    is_send: bool,
+    octets: &[u8],
+    messages: u64,
+) -> u64 {
+    let Some(mut endpoint) = opened(alloc, 0) else {
+        return 0;
+    };
+    let Ok(payload) = Bytes::copy_from_slice(alloc, octets) else {
+        return 0;
+    };
+    let mut out = Vec::new(alloc);
+    let mut emitted = 0u64;
+    for _ in 0..messages {
+        let Ok(shared) = payload.clone() else {
+            return 0;
+        };
+        emitted = emitted.wrapping_add(carry(&mut endpoint, &mut out, is_send, shared));
+    }
+    emitted
 }

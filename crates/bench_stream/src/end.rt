@@ -56,8 +56,6 @@ impl Buffers {
 #[derive(Drop)]
 pub(crate) struct End {
     stream: Stream,
-    /// Its receive buffers come from the pool.
-    pooled: bool,
 }
 
 fn config(load: Load) -> Config {
@@ -78,7 +76,6 @@ impl End {
         }
         Ok(End {
             stream: Stream::new(alloc, DOMAIN, role, config)?,
-            pooled: false,
         })
     }
 
@@ -93,7 +90,6 @@ impl End {
         }
         Ok(End {
             stream: Stream::new_shared(alloc, DOMAIN, role, config)?,
-            pooled: true,
         })
     }
 
@@ -140,7 +136,7 @@ impl End {
         let Some(buffer) = buffers.spare.pop() else {
             return Err(Stop);
         };
-        if self.pooled {
+        if self.stream.is_shared() {
             return add_to_pool(&mut buffers.pool, buffer);
         }
         match self.stream.post_recv(buffer) {
@@ -178,30 +174,45 @@ impl End {
         }
     }
 
-    // Does one step. Returns how many octets it placed; `None` if there was nothing to do. The buffer of a complete
-    // Send is no longer posted.
+    // Does one step, and returns what `told` says of it.
     #[inline(always)]
     fn step(&mut self, memory: &mut Memory, buffers: &mut Buffers) -> Result<Option<u64>, Stop> {
         if self.stream.in_order_point() > MAX_PLACE {
             return Err(Stop);
         }
-        let worked = if self.pooled {
-            self.stream.work_shared(memory, &mut buffers.pool)
-        } else {
-            self.stream.work(memory)
-        };
-        let Ok(step) = worked else {
-            return Err(Stop);
-        };
-        match step {
-            Step::Placed { len, .. } | Step::Buffered { len, .. } => Ok(Some(len as u64)),
-            Step::Received { buffer, .. } => keep(&mut buffers.spare, buffer),
-            Step::Done(_) | Step::Tried(_) | Step::Passed => Ok(Some(0)),
-            Step::Asked | Step::Opened(_) | Step::Requested { .. } => Ok(Some(0)),
-            Step::Idle => Ok(None),
-            Step::Closed(_) | Step::Terminated(_) | Step::Fault(_) => Err(Stop),
-            Step::Flushed(_) | Step::FlushedRecv(_) => Err(Stop),
+        match self.stream.work(memory) {
+            Ok(step) => told(step, buffers),
+            Err(_) => Err(Stop),
         }
+    }
+
+    // The same, of a stream that shares the pool.
+    #[inline(always)]
+    fn step_shared(
+        &mut self,
+        memory: &mut Memory,
+        buffers: &mut Buffers,
+    ) -> Result<Option<u64>, Stop> {
+        if self.stream.in_order_point() > MAX_PLACE {
+            return Err(Stop);
+        }
+        match self.stream.work_shared(memory, &mut buffers.pool) {
+            Ok(step) => told(step, buffers),
+            Err(_) => Err(Stop),
+        }
+    }
+
+    // Works until there is nothing to do, of a stream that shares the pool: in a call of its own, so that it burdens no other.
+    #[inline(never)]
+    fn settle_shared(&mut self, memory: &mut Memory, buffers: &mut Buffers) -> Result<u64, Stop> {
+        let mut placed = 0u64;
+        for _ in 0..MAX_STEPS {
+            let Some(more) = self.step_shared(memory, buffers)? else {
+                return Ok(placed);
+            };
+            placed = placed.wrapping_add(more);
+        }
+        Err(Stop)
     }
 
     /// Works until there is nothing to do. Returns how many octets were placed.
@@ -211,6 +222,9 @@ impl End {
         memory: &mut Memory,
         buffers: &mut Buffers,
     ) -> Result<u64, Stop> {
+        if self.stream.is_shared() {
+            return self.settle_shared(memory, buffers);
+        }
         let mut placed = 0u64;
         for _ in 0..MAX_STEPS {
             let Some(more) = self.step(memory, buffers)? else {
@@ -228,6 +242,9 @@ impl End {
         memory: &mut Memory,
         buffers: &mut Buffers,
     ) -> Result<u64, Stop> {
+        if self.stream.is_shared() {
+            return self.settle_shared(memory, buffers);
+        }
         let mut placed = 0u64;
         for _ in 0..MAX_STEPS {
             match self.step(memory, buffers)? {
@@ -243,6 +260,20 @@ fn add_to_pool(pool: &mut SharedQueue, buffer: Vec<u8>) -> Result<(), Stop> {
     match pool.post(buffer) {
         Ok(()) => Ok(()),
         Err(_) => Err(Stop),
+    }
+}
+
+// How many octets a step placed; `None` if there was nothing to do. The buffer of a complete Send is no longer posted.
+#[inline(always)]
+fn told(step: Step<Octets>, buffers: &mut Buffers) -> Result<Option<u64>, Stop> {
+    match step {
+        Step::Placed { len, .. } | Step::Buffered { len, .. } => Ok(Some(len as u64)),
+        Step::Received { buffer, .. } => keep(&mut buffers.spare, buffer),
+        Step::Done(_) | Step::Tried(_) | Step::Passed => Ok(Some(0)),
+        Step::Asked | Step::Opened(_) | Step::Requested { .. } => Ok(Some(0)),
+        Step::Idle => Ok(None),
+        Step::Closed(_) | Step::Terminated(_) | Step::Fault(_) => Err(Stop),
+        Step::Flushed(_) | Step::FlushedRecv(_) => Err(Stop),
     }
 }
 
