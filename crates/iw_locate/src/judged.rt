@@ -243,7 +243,7 @@ impl<T, A: Allocator> Judged<T, A> {
     }
 
     /// Drops the records of the frames whose spans begin before `place`.
-    #[inline]
+    #[inline(always)]
     pub fn drop_to(&mut self, place: u64)
     where
         T: Drop,

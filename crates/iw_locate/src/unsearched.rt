@@ -124,7 +124,7 @@ impl Unsearched {
 
     /// The in-order point moves on to `place`, and the records of frames whose spans begin before it will be dropped. What lies
     /// before it need not be looked at any more. A record of a frame that ends past it had kept other frames from being judged.
-    #[inline]
+    #[inline(always)]
     pub fn passed<T, A: Allocator>(&mut self, judged: &Judged<T, A>, place: u64)
         ensures { ((self.new ≡ from_place self.old place) × ((r : Record T) → Contains judged.now.records r → from_of r < place → r.end ≤ place)) ⊎ (self.new ≡ anywhere self.old) }
     {

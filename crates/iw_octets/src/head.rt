@@ -151,7 +151,7 @@ impl UntaggedHead {
     /// Reads the header at the front, and answers it with the octets after it.
     /// `Short` if there are fewer than 18 octets.
     #[tactic(auto, unfolding(crate::specs::Head::read_untagged))]
-    #[inline(never)]
+    #[inline(always)]
     pub fn read(octets: &[u8]) -> Result<(UntaggedHead, &[u8]), Short>
         ensures read { shown result ≡ read_untagged octets.now }
         ensures fits { IfOk result (λ read. FitsUntagged read.0) }

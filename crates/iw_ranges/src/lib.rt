@@ -339,7 +339,7 @@ impl<A: Allocator> Islands<A> {
 
     /// Moves the in-order point on to `to`, before which all came, and gives up what lies before it. An in-order point
     /// that lies further on stays. Where nothing came past it, memory for more than 131,072 octets is given back.
-    #[inline]
+    #[inline(always)]
     pub fn advance(&mut self, to: u64)
         requires come { (p : ℕ) → p < to → has_come self.old.arrived p ≡ true }
         requires place { to ≤ 2 ^ 63 }

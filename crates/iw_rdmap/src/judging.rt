@@ -34,7 +34,7 @@ pub(crate) fn tagged_operation(head: &TaggedHead) -> Result<TaggedOperation, Fau
 }
 
 /// The checks of an untagged header up to that of its opcode: the operation, or the first fault.
-#[inline(never)]
+#[inline(always)]
 pub(crate) fn untagged_operation(head: &UntaggedHead) -> Result<UntaggedOperation, Fault>
     ensures { result ≡ untagged_checked head.now }
 {
