@@ -623,9 +623,7 @@ fn keep_first<A: Allocator>(
 /// Judges a whole frame. If it is a Send's that passes its checks, its payload is placed, and what is kept of the frame takes
 /// the place of what was kept before; the frame begins at frame place `start`. Otherwise nothing changes: it is another frame,
 /// or at fault, or a marker stands among the octets that its header is judged by.
-///
-/// The frame is moved here: if it were lent, its caller would keep it in memory on every way.
-#[inline(never)]
+#[inline(always)]
 pub(crate) fn land_send<A: Allocator, B: Allocator>(
     kept: &mut Option<PlacedFrame>,
     fpdu: Fpdu<'_, A>,

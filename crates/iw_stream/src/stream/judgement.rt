@@ -1,10 +1,11 @@
 ghost use Rattle.std.specs.Prelude.{◌≡◌, ◌+◌, ◌<◌, ◌≤◌, ◌^◌, length, true, false};
-ghost use Rattle.std.specs.Prelude.{[], is_some, Some, None, Ok, IfSome, IfOk, OnOk, OnErr, IsTrue};
+ghost use Rattle.std.specs.Prelude.{[], is_some, Some, None, Ok, IfSome, IfNone, OnSome, IfOk, OnOk, OnErr, IsTrue};
 ghost use Rattle.iw_fpdu.specs.Found.{HoldsSpan};
 ghost use Rattle.iw_locate.specs.Records.{max_records, added};
 ghost use Rattle.iw_locate.specs.Next.{IsNext};
 ghost use Rattle.iw_locate.specs.Unsearched.{IsFollowed};
 ghost use Rattle.iw_stream.specs.Frames.{Frame, frame_by, placed as placed_of, state_tried, record_tried, without};
+ghost use Rattle.iw_memory.specs.Table.{Table};
 ghost use Rattle.iw_stream.specs.Incoming.{IsSameStart, scene_in, frame_in};
 ghost use Rattle.iw_stream.specs.Judging.{early_verdict, table_tried, receiving_tried};
 ghost use Rattle.iw_stream.specs.Kept.{IsWithinBuffer};
@@ -27,7 +28,7 @@ use crate::turning::is_response;
 use iw_fpdu::Fpdu;
 use iw_locate::{Frame as EarlyFrame, Next, State};
 use iw_memory::{Memory, Peer, Right};
-use iw_octets::{Fault, Octets, ReadRequest, UNTAGGED_HEADER};
+use iw_octets::{Fault, Octets, ReadRequest, UNTAGGED_HEADER, is_tagged};
 use iw_rdmap::tagged_head;
 use iw_reads::{Asked, Reads, Requests};
 use iw_tagged::Placed;
@@ -152,9 +153,9 @@ impl<A: Allocator> Stream<A> {
     ghost use Rattle.iw_stream.specs.Work.{next_frame, early_frame, frame_task, step_of, left_by, table_left};
     ghost use Rattle.iw_stream.specs.Kept.{Stands, NoneReachesOver};
 
-    // Judges the frame at the in-order point, if it is whole, and places it, if it is of a Write, a Read Response or a Send and
-    // passes its checks. The answer is its place, or `None` if it is not whole. An `Err` changes nothing, and comes with any
-    // other frame, and with a Send that has a marker near its front.
+    // Judges the frame at the in-order point, if it is whole, and places it, if it is of a Write or a Read Response and passes
+    // its checks. The answer is its place, or `None` if it is not whole. An `Err` changes nothing, and comes with any other
+    // frame.
     #[inline(always)]
     pub(crate) fn judge(&mut self, memory: &mut Memory<A>) -> Result<Option<Landing>, Apart>
         requires open { is_open self.old.start ≡ true }
@@ -184,16 +185,7 @@ impl<A: Allocator> Stream<A> {
             return Err(Apart);
         };
         let Some(head) = tagged_head(front) else {
-            let Some(Buffered { msn, mo, len }) = land_send(
-                &mut self.front,
-                fpdu,
-                start,
-                &self.asked,
-                &mut self.receiving,
-            ) else {
-                return Err(Apart);
-            };
-            return Ok(Some(Landing::Send { msn, mo, len }));
+            return Err(Apart);
         };
         let response = is_response(&head);
         match land_tagged(
@@ -214,6 +206,71 @@ impl<A: Allocator> Stream<A> {
                 Ok(Some(landing_of(response, placed)))
             }
         }
+    }
+
+    // Judges the frame at the in-order point, if it is whole, and places it, if it is of a Send and passes its checks. The
+    // answer is its place. `None` changes nothing, comes with any other frame, and may come with a Send: it only costs time.
+    #[inline(always)]
+    pub(crate) fn judge_send(&mut self) -> Option<Buffered>
+        requires open { is_open self.old.start ≡ true }
+        requires runs { ended self.old ≡ false }
+        requires place { self.old.arrived.floor ≤ 2 ^ 62 }
+        requires waiting { waiting self.old ≡ None }
+        requires clear { (frame : Frame) → next_frame self.old ≡ Some frame → clashes self.old frame ≡ false }
+        ensures step { (table : Table) → IfSome result (λ to. Step.Buffered to.msn to.mo to.len ≡ step_of table self.old (option_map_or Judge (next_frame self.old) Rest)) }
+        ensures whole { OnSome result (is_some (next_frame self.old) ≡ true) }
+        ensures after { (table : Table) → OnSome result (self.new ≡ left_by table self.old (option_map_or Judge (next_frame self.old) Rest)) }
+        ensures memory { (table : Table) → OnSome result (table_left table self.old (option_map_or Judge (next_frame self.old) Rest) ≡ table) }
+        ensures none { IfNone result (self.new ≡ self.old) }
+        ensures reach { self.new.arrived.floor ≤ self.old.arrived.floor + 2 ^ 18 }
+    {
+        if self.is_next_tagged() {
+            return None;
+        }
+        self.judge_send_outlined()
+    }
+
+    // Whether no frame at the in-order point seems to have an untagged segment, by the octet past its length. What it answers
+    // decides on the shorter way alone.
+    #[inline(always)]
+    fn is_next_tagged(&self) -> bool
+        requires { self.now.arrived.floor ≤ 2 ^ 62 }
+    {
+        let place = self.arrived.floor() + 2;
+        if self.arrived.missing() <= place {
+            return true;
+        }
+        is_tagged(self.arrived.islands().peek(place))
+    }
+
+    // `judge_send`, out of line.
+    #[inline(never)]
+    fn judge_send_outlined(&mut self) -> Option<Buffered>
+        requires open { is_open self.old.start ≡ true }
+        requires runs { ended self.old ≡ false }
+        requires place { self.old.arrived.floor ≤ 2 ^ 62 }
+        requires waiting { waiting self.old ≡ None }
+        requires clear { (frame : Frame) → next_frame self.old ≡ Some frame → clashes self.old frame ≡ false }
+        ensures step { (table : Table) → IfSome result (λ to. Step.Buffered to.msn to.mo to.len ≡ step_of table self.old (option_map_or Judge (next_frame self.old) Rest)) }
+        ensures whole { OnSome result (is_some (next_frame self.old) ≡ true) }
+        ensures after { (table : Table) → OnSome result (self.new ≡ left_by table self.old (option_map_or Judge (next_frame self.old) Rest)) }
+        ensures memory { (table : Table) → OnSome result (table_left table self.old (option_map_or Judge (next_frame self.old) Rest) ≡ table) }
+        ensures none { IfNone result (self.new ≡ self.old) }
+        ensures reach { self.new.arrived.floor ≤ self.old.arrived.floor + 2 ^ 18 }
+    {
+        self.arrived.limits();
+        let base = self.start.first_place_in();
+        let layout = self.start.expecting();
+        let start = layout.start_of(self.arrived.floor() - base);
+        let fpdu = held_at(layout, &self.arrived, base, start)?;
+        let to = land_send(
+            &mut self.front,
+            fpdu,
+            start,
+            &self.asked,
+            &mut self.receiving,
+        )?;
+        Some(to)
     }
 
     // The slow path of `judge`: judges the frame at the in-order point, whatever it is, if it is whole.

@@ -6,6 +6,7 @@ use super::Stream;
 use super::judgement::landed_step;
 use crate::answer::Step;
 use crate::ending::Ending;
+use crate::judging::Buffered;
 use crate::starting::{negotiation_fault, octets_in_order};
 use crate::terminating::terminate_alone;
 use iw_memory::Memory;
@@ -196,6 +197,9 @@ impl<A: Allocator> Stream<A> {
         };
         if turned {
             return Ok(Step::Passed);
+        }
+        if let Some(Buffered { msn, mo, len }) = self.judge_send() {
+            return Ok(Step::Buffered { msn, mo, len });
         }
         let Ok(found) = self.judge(memory) else {
             return Ok(self.judge_slow(memory));

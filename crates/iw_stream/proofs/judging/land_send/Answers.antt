@@ -1,4 +1,4 @@
-use Rattle.std.proofs.Common.{◌≡◌, ◌-◌, length, Option, None, Ok, Err, sym, ap, ◌∙◌, subst, arith, length-append}
+use Rattle.std.proofs.Common.{◌≡◌, ◌-◌, length, Option, None, Ok, Err, sym, ap, ◌∙◌, arith, length-append}
 use Rattle.std.specs.Result.{result_err}
 use Rattle.std.specs.Option.{option_map_or}
 use Rattle.iw_octets.specs.Segment.{read_segment}

@@ -6,7 +6,6 @@ use Rattle.iw_octets.specs.Segment.{read_segment}
 use Rattle.iw_rdmap.proofs.Tags.{Passes, passes}
 use Rattle.iw_stream.specs.Fields.{state_of}
 use Rattle.iw_fpdu.specs.Places.{frame_start}
-use Rattle.iw_stream.specs.declared.judging.Landing.TheVariants.{Send}
 use Rattle.iw_stream.specs.Frames.{Frame, IsNext, placed, frame_by, payload_of}
 use Rattle.iw_stream.specs.Judging.{landing_of, verdict}
 use Rattle.iw_stream.specs.Kept.{Keeps}
@@ -86,8 +85,8 @@ keep_tagged-requires-clause-long g c =
     let head = c.in-Some-tagged_head.head in
     tagged_long front head (passes front head c.in-Some-tagged_head.ensures)
 
-pub invariant_of-self-in-Ok : goal.invariant_of-self-in-Ok
-invariant_of-self-in-Ok g c = record {
+pub invariant_of-self : goal.invariant_of-self
+invariant_of-self g c = record {
   keeps =
       let s = state_of c.self.inside in
       let found = next_is s c.expecting-layout.result c.first_place_in-base.result c.start_of-start.result c.floor-2.result (Some (frame_by c.in-Some.fpdu)) c.expecting-layout.ensures c.first_place_in-base.ensures.place c.floor-2.ensures c.start_of-start.ensures c.in-Some.ensures.frame in
@@ -140,51 +139,4 @@ returns-in-Ok-clause-memory g c =
     let next = next_is s c.expecting-layout.result c.first_place_in-base.result c.start_of-start.result c.floor-2.result (Some (frame_by c.in-Some.fpdu)) c.expecting-layout.ensures c.first_place_in-base.ensures.place c.floor-2.ensures c.start_of-start.ensures c.in-Some.ensures.frame in
     let ok : verdict (standing table s) frame ≡ Ok (landing_of response at) = sym (c.in-Ok.ensures.landed (standing table s) refl refl refl) in
     c.in-Ok.ensures.memory ∙ table_placed response at table frame ∙ ap (table_judged table frame) (sym ok)
-    ∙ ap (λ o. table_left table s (option_map_or Judge o Rest)) (sym next) ∙ ap (λ t. table_left table t (option_map_or Judge (next_frame t) Rest)) c.self.view_is
-
--- a Send's frame
-pub invariant_of-self-in_default-tagged_head : goal.invariant_of-self-in_default-tagged_head
-invariant_of-self-in_default-tagged_head g c = record {
-  keeps =
-      let s = state_of c.self.inside in
-      let to = c.in-Some-land_send in
-      let found = next_is s c.expecting-layout.result c.first_place_in-base.result c.start_of-start.result c.floor-2.result (Some (frame_by c.in-Some.fpdu)) c.expecting-layout.ensures c.first_place_in-base.ensures.place c.floor-2.ensures c.start_of-start.ensures c.in-Some.ensures.frame in
-      let over = clear_over s c.self.invariant.keeps (kept_scene s c.self.inside.arrived.layout c.self.inside.arrived.base c.self.invariant.layout c.self.invariant.base c.limits.ensures.tracked.keeps) c.limits.ensures.apart c.limits.ensures.arrived (placed (frame_by c.in-Some.fpdu)) (begins_at s c.in-Some.fpdu c.expecting-layout.result c.first_place_in-base.result c.start_of-start.result c.floor-2.result c.expecting-layout.ensures c.first_place_in-base.ensures.place c.in-Some.ensures.next) (ap (λ (t : StreamState). clashes t (frame_by c.in-Some.fpdu)) c.self.view_is ∙ c.requires.clear (frame_by c.in-Some.fpdu) (ap next_frame (sym c.self.view_is) ∙ found)) in
-      let running : is_open (state_of c.self.inside).start ≡ true = ap (λ (t : StreamState). is_open t.start) c.self.view_is ∙ c.requires.open in
-      let next : IsNext (expecting c.self.inside.start) c.self.inside.arrived.arrived (first_place_in c.self.inside.start) c.in-Some.fpdu =
-      subst (λ l. IsNext l c.self.inside.arrived.arrived (first_place_in c.self.inside.start) c.in-Some.fpdu) c.expecting-layout.ensures
-      (subst (λ b. IsNext c.expecting-layout.result c.self.inside.arrived.arrived b c.in-Some.fpdu) c.first_place_in-base.ensures.place c.in-Some.ensures.next) in
-      subst (λ f. Keeps (record s { front = f; receiving = c.land_send.new.receiving })) (sym to.ensures.kept)
-      (keeps_judged s c.args.memory.now c.in-Some.fpdu c.land_send.new.receiving (Send to.field-0.msn to.field-0.mo to.field-0.len) running next
-      (to.ensures.landed (standing c.args.memory.now s) refl refl) tt to.ensures.receiving over c.self.invariant.keeps);
-  layout = c.self.invariant.layout;
-  base = c.self.invariant.base;
-}
-
-pub returns-in_default-tagged_head-clause-step : goal.returns-in_default-tagged_head-clause-step
-returns-in_default-tagged_head-clause-step g c =
-    let s = state_of c.self.inside in
-    let table = c.args.memory.now in
-    let next = next_is s c.expecting-layout.result c.first_place_in-base.result c.start_of-start.result c.floor-2.result (Some (frame_by c.in-Some.fpdu)) c.expecting-layout.ensures c.first_place_in-base.ensures.place c.floor-2.ensures c.start_of-start.ensures c.in-Some.ensures.frame in
-    (λ i. judged_step (Ok (Send (sym c.in-Some-land_send.field-0-is i).msn (sym c.in-Some-land_send.field-0-is i).mo (sym c.in-Some-land_send.field-0-is i).len)))
-    ∙ ap judged_step (sym (c.in-Some-land_send.ensures.landed (standing table s) refl refl))
-    ∙ ap (λ o. step_of table s (option_map_or Judge o Rest)) (sym next) ∙ ap (λ t. step_of table t (option_map_or Judge (next_frame t) Rest)) c.self.view_is
-
-pub returns-in_default-tagged_head-clause-after : goal.returns-in_default-tagged_head-clause-after
-returns-in_default-tagged_head-clause-after g c =
-    let s = state_of c.self.inside in
-    let table = c.args.memory.now in
-    let frame = frame_by c.in-Some.fpdu in
-    let to = c.in-Some-land_send in
-    let next = next_is s c.expecting-layout.result c.first_place_in-base.result c.start_of-start.result c.floor-2.result (Some (frame_by c.in-Some.fpdu)) c.expecting-layout.ensures c.first_place_in-base.ensures.place c.floor-2.ensures c.start_of-start.ensures c.in-Some.ensures.frame in
-    (λ i. record s { front = to.ensures.kept i; receiving = to.ensures.receiving i }) ∙ ap (after_judging s frame) (sym (to.ensures.landed (standing table s) refl refl))
-    ∙ ap (λ o. left_by table s (option_map_or Judge o Rest)) (sym next) ∙ ap (λ t. left_by table t (option_map_or Judge (next_frame t) Rest)) c.self.view_is
-
-pub returns-in_default-tagged_head-clause-memory : goal.returns-in_default-tagged_head-clause-memory
-returns-in_default-tagged_head-clause-memory g c =
-    let s = state_of c.self.inside in
-    let table = c.args.memory.now in
-    let frame = frame_by c.in-Some.fpdu in
-    let next = next_is s c.expecting-layout.result c.first_place_in-base.result c.start_of-start.result c.floor-2.result (Some (frame_by c.in-Some.fpdu)) c.expecting-layout.ensures c.first_place_in-base.ensures.place c.floor-2.ensures c.start_of-start.ensures c.in-Some.ensures.frame in
-    ap (table_judged table frame) (sym (c.in-Some-land_send.ensures.landed (standing table s) refl refl))
     ∙ ap (λ o. table_left table s (option_map_or Judge o Rest)) (sym next) ∙ ap (λ t. table_left table t (option_map_or Judge (next_frame t) Rest)) c.self.view_is

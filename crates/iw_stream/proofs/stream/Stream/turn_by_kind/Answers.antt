@@ -1,4 +1,4 @@
-use Rattle.std.proofs.Common.{◌≡◌, false, true, Some, ap, ◌∙◌}
+use Rattle.std.proofs.Common.{◌≡◌, false, true, ap, ◌∙◌}
 use Rattle.iw_stream.specs.Fields.{state_of}
 use Rattle.iw_stream.specs.Starting.{is_open}
 use Rattle.iw_stream.specs.Stream.{StreamState, ended}
