@@ -353,9 +353,10 @@ int32_t iwarp_post_write(struct iwarp *handle, uint32_t stream, uint32_t stag, u
                          uint64_t token);
 
 /* Posts a Send of the buffer's octets themselves, as iwarp_post_send does of a copy: nothing is copied, and the buffer has none
- * then. Once IWARP_DONE or IWARP_FLUSHED tells of this message, iwarp_fetch_sent moves them back into a buffer. If the call is
- * refused, the buffer keeps them, but for one case: if it has none after IWARP_NO_MEMORY, then there was no memory to move
- * them back, and iwarp_fetch_sent still does, in place of those that it would have moved. */
+ * then. It keeps memory for as many octets, which is not written, for when they come back. Once IWARP_DONE or IWARP_FLUSHED tells
+ * of this message, iwarp_fetch_sent moves them back into a buffer. If the call is refused, the buffer keeps them, but for one
+ * case: if it has none after IWARP_NO_MEMORY, then there was no memory to move them back, and iwarp_fetch_sent still does, in
+ * place of those that it would have moved. */
 int32_t iwarp_post_send_buffer(struct iwarp *handle, uint32_t stream, struct iwarp_buffer *buffer, uint32_t flags, uint32_t stag,
                                uint64_t token);
 
@@ -500,7 +501,9 @@ int32_t iwarp_fetch_buffer(struct iwarp *handle, uint32_t stream, struct iwarp_b
  * from a buffer, and forgets them: the same octets, whole. The octets that the buffer had are freed. If that message was not
  * posted from a buffer, or its octets were fetched, the buffer has none then. With the next IWARP_DONE or IWARP_FLUSHED on the
  * stream, octets that were not fetched are freed. After IWARP_NO_MEMORY they can still be fetched. The octets stay at their
- * address, but today the call writes each onto itself, which takes longer than a copy: for speed post copies. */
+ * address, and none is written: fill them there and post the buffer again. A call by which such octets become a region or a
+ * receive buffer, and iwarp_emit_onto, first write each onto itself, once, which takes longer than a copy: so keep buffers for
+ * messages apart from those for regions. */
 int32_t iwarp_fetch_sent(struct iwarp *handle, uint32_t stream, struct iwarp_buffer *buffer);
 
 /* What a call of iwarp_emit did. */

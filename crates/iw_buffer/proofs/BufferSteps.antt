@@ -28,8 +28,8 @@ use Rattle.std.specs.declared.alloc.Global.{Global}
 use Rattle.std.specs.contracts.alloc.Global as heap
 use Rattle.std.proofs.alloc.Global.TheLaws as heap_laws
 use Rattle.std.specs.contracts.impls.GlobalAllocator.TheImpl.{ghosts}
-use Rattle.iw_buffer.proofs.held.Held.TheLaws as held_laws
-use Rattle.iw_buffer.specs.Ownership.{held_row, buffer_owns}
+use Rattle.iw_buffer.proofs.contents.Contents.TheLaws as contents_laws
+use Rattle.iw_buffer.specs.Ownership.{contents_row, buffer_owns}
 use Rattle.iw_buffer.specs.contracts.buffer.Buffer as buffer
 use Rattle.iw_buffer.specs.contracts.parts.Parts as parts
 use denote.Signature.{Slot, plain}
@@ -61,10 +61,10 @@ module _ {M : Type 1} {𝓤 : Ura M} {𝓛 : Logic 𝓤} {K : Type 0} {Γ : List
       fpack t (Valss (RawPtr ∷ Z ∷ [])) (within (shape buffer.the_type) (to buffer.the_type d) (v ∷ [])) (ptr_val d.at ∷ [], (h ∷ [], tt)) $ fjoin t $ s)
 
 abbrev pub E : Bx
-E = record { row = held_row; laws = held_laws.the_row_laws; al = al }
+E = record { row = contents_row; laws = contents_laws.the_row_laws; al = al }
 
 abbrev pub Parts : RattleType
-Parts = parts.the_row held_row Z ghosts
+Parts = parts.the_row contents_row Z ghosts
 
 abbrev pub FromParts : Slot 0
 FromParts = plain (λ _. Parts)
@@ -73,18 +73,18 @@ abbrev pub FromBuffer : Slot 0
 FromBuffer = plain (λ _. Buffer)
 
 module _ {M : Type 1} {𝓤 : Ura M} (𝓛 : Logic 𝓤) (a : Global) where
-  pub tested : (p : Ptr) (x : List ℕ) → ent 𝓤 (sem 𝓛 (box_owns (ghosts.dealloc_token a) held_row p x)) (guard 𝓤 (Testable p) (sem 𝓛 (box_owns (ghosts.dealloc_token a) held_row p x)))
-  tested p x = let Owned : SProp 𝓤 = sem 𝓛 (box_owns (ghosts.dealloc_token a) held_row p x) in
-      fact_use 𝓤 (Testable p) (via 𝓤 _ (snd∗ 𝓤 (sem 𝓛 (lies_at held_row full_share p x)) (sem 𝓛 (ghosts.dealloc_token a (bare (lone held_row.mir)) p)))
-      (dealloc_token-Testable 𝓛 a (bare (lone held_row.mir)) p)) (guard_i 𝓤 (Testable p) Owned)
+  pub tested : (p : Ptr) (x : List ℕ) → ent 𝓤 (sem 𝓛 (box_owns (ghosts.dealloc_token a) contents_row p x)) (guard 𝓤 (Testable p) (sem 𝓛 (box_owns (ghosts.dealloc_token a) contents_row p x)))
+  tested p x = let Owned : SProp 𝓤 = sem 𝓛 (box_owns (ghosts.dealloc_token a) contents_row p x) in
+      fact_use 𝓤 (Testable p) (via 𝓤 _ (snd∗ 𝓤 (sem 𝓛 (lies_at contents_row full_share p x)) (sem 𝓛 (ghosts.dealloc_token a (bare (lone contents_row.mir)) p)))
+      (dealloc_token-Testable 𝓛 a (bare (lone contents_row.mir)) p)) (guard_i 𝓤 (Testable p) Owned)
 
 -- what a buffer owns is nothing, at null, or what it has in a block whose pointer may be compared with null
 module _ {M : Type 1} {𝓤 : Ura M} {𝓛 : Logic 𝓤} {K : Type 0} {Γ : List (Item 𝓤)} {G : Goal 𝓤 𝓛.H} where
   pub owned_tested : K → (a : Global) (p : Ptr) (s : Option (List ℕ))
       → (p ≡ null_ptr → s ≡ None → Seq K 𝓛 Γ G)
-      → ((b o : ℕ) (x : List ℕ) → p ≡ block_ptr b o → s ≡ Some x → Testable (block_ptr b o) → Seq K 𝓛 (‵ (box_owns (ghosts.dealloc_token a) held_row (block_ptr b o) x) ∷ Γ) G)
+      → ((b o : ℕ) (x : List ℕ) → p ≡ block_ptr b o → s ≡ Some x → Testable (block_ptr b o) → Seq K 𝓛 (‵ (box_owns (ghosts.dealloc_token a) contents_row (block_ptr b o) x) ∷ Γ) G)
       → Seq K 𝓛 (‵ (buffer_owns a p s) ∷ Γ) G
   owned_tested t a p None at_none at_some = feq_l t (λ is. at_none is refl)
   owned_tested t a p (Some x) at_none at_some =
-      in_a_block t p (λ q. box_owns (ghosts.dealloc_token a) held_row q x) (fst∗ 𝓤 (never 𝓤) (sem 𝓛 (ghosts.dealloc_token a (bare (lone held_row.mir)) null_ptr))) (λ b o is.
-      use1 𝓛 (given (Testable (block_ptr b o)) (‵ (box_owns (ghosts.dealloc_token a) held_row (block_ptr b o) x))) (tested 𝓛 a (block_ptr b o) x) $ learn t (λ may. at_some b o x is refl may))
+      in_a_block t p (λ q. box_owns (ghosts.dealloc_token a) contents_row q x) (fst∗ 𝓤 (never 𝓤) (sem 𝓛 (ghosts.dealloc_token a (bare (lone contents_row.mir)) null_ptr))) (λ b o is.
+      use1 𝓛 (given (Testable (block_ptr b o)) (‵ (box_owns (ghosts.dealloc_token a) contents_row (block_ptr b o) x))) (tested 𝓛 a (block_ptr b o) x) $ learn t (λ may. at_some b o x is refl may))

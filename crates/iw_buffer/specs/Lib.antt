@@ -1,2 +1,3 @@
 pub mod Ownership
 pub mod Octets
+pub mod Contents

@@ -7,15 +7,15 @@ use denote.RawPtr.{Ptr, null_ptr}
 use Rattle.std.specs.declared.alloc.Global.{Global}
 use Rattle.std.specs.contracts.impls.GlobalAllocator.TheImpl.{ghosts}
 use Rattle.std.specs.Box.Ownership.{box_owns}
-use Rattle.iw_buffer.specs.contracts.held.Held as held
+use Rattle.iw_buffer.specs.contracts.contents.Contents as contents
 
-abbrev pub held_row : RattleType
-held_row = held.the_row
+abbrev pub contents_row : RattleType
+contents_row = contents.the_row
 
 abbrev pub state_coded : Coded (Option (List ℕ))
-state_coded = coded_option held_row.coded
+state_coded = coded_option contents_row.coded
 
 -- nothing if there is no buffer, and the pointer is null; else what it has, and the right to free its block
 abbrev pub buffer_owns : Global → Ptr → Option (List ℕ) → Fml
 buffer_owns alloc at None = feq Ptr at null_ptr
-buffer_owns alloc at (Some held) = box_owns (ghosts.dealloc_token alloc) held_row at held
+buffer_owns alloc at (Some octets) = box_owns (ghosts.dealloc_token alloc) contents_row at octets

@@ -2,7 +2,8 @@ ghost use Rattle.std.specs.Prelude.{◌≡◌, Option, None, Some, List, ℕ};
 ghost use Rattle.std.specs.Option.{option_map};
 ghost use Rattle.iw_buffer.specs.Ownership.{buffer_owns, state_coded};
 
-use crate::held::Held;
+use crate::contents::Contents;
+use crate::lent::Lent;
 use crate::parts::Parts;
 use std::alloc::Global;
 use std::marker::Model;
@@ -35,22 +36,46 @@ impl Buffer {
     }
 
     /// Takes out what there is, for a call that puts it back: then there is no buffer.
-    pub fn take(&mut self, alloc: Global) -> Option<Box<Held>>
-        ensures held { option_map (λ b. b.value) result ≡ self.old.state }
+    pub fn take(&mut self, alloc: Global) -> Option<Box<Contents>>
+        ensures contents { option_map (λ b. b.value) result ≡ self.old.state }
         ensures none { self.new.state ≡ None }
     {
         let buffer = std::mem::replace(self, Buffer::none(alloc));
-        buffer.into_held()
+        buffer.into_contents()
     }
 
     /// Puts this in. What was there goes.
-    pub fn put(&mut self, held: Box<Held>)
-        ensures { self.new.state ≡ Some held.value }
+    pub fn put(&mut self, contents: Box<Contents>)
+        ensures { self.new.state ≡ Some contents.value }
     {
-        *self = Buffer::of_parts(Parts::of(held));
+        *self = Buffer::of_parts(Parts::of(contents));
     }
 
-    fn into_held(self) -> Option<Box<Held>>
+    /// Takes out what there is, with its octets as a vector ([`Contents::into_vec`]), for a call that puts it back: then there is
+    /// no buffer.
+    pub fn take_vec(&mut self, alloc: Global) -> Option<Lent>
+        ensures octets { option_map (λ lent. lent.octets.items) result ≡ self.old.state }
+        ensures none { self.new.state ≡ None }
+    {
+        match self.take(alloc) {
+            None => None,
+            Some(mut block) => {
+                let octets = block.take_vec(alloc);
+                Some(Lent { octets, block })
+            }
+        }
+    }
+
+    /// Puts back what was taken out so. What was there goes.
+    pub fn put_vec(&mut self, lent: Lent)
+        ensures { self.new.state ≡ Some lent.octets.items }
+    {
+        let Lent { octets, mut block } = lent;
+        block.set(octets);
+        self.put(block);
+    }
+
+    fn into_contents(self) -> Option<Box<Contents>>
         ensures { option_map (λ b. b.value) result ≡ self.state }
     {
         match self.into_parts() {
@@ -59,7 +84,7 @@ impl Buffer {
         }
     }
 
-    fn of_parts(parts: Parts<Held, Global>) -> Buffer
+    fn of_parts(parts: Parts<Contents, Global>) -> Buffer
         ensures { result.state ≡ Some parts.value }
     {
         let Parts { ptr, alloc } = parts;
@@ -69,7 +94,7 @@ impl Buffer {
         }
     }
 
-    fn into_parts(self) -> Option<Parts<Held, Global>>
+    fn into_parts(self) -> Option<Parts<Contents, Global>>
         ensures { option_map (λ p. p.value) result ≡ self.state }
     {
         let Buffer { at, alloc } = self;
@@ -77,7 +102,7 @@ impl Buffer {
             None
         } else {
             Some(Parts {
-                ptr: at as *mut Held,
+                ptr: at as *mut Contents,
                 alloc,
             })
         }
@@ -86,6 +111,6 @@ impl Buffer {
 
 impl Drop for Buffer {
     fn drop(self) {
-        drop(self.into_held());
+        drop(self.into_contents());
     }
 }

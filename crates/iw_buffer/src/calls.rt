@@ -5,16 +5,16 @@ ghost use Rattle.std.specs.Result.{result_err};
 ghost use Rattle.iw_buffer.specs.Octets.{buffer_refusal, zeroes};
 
 use crate::buffer::Buffer;
-use crate::held::Held;
+use crate::contents::Contents;
 use crate::refusal::BufferRefusal;
 use std::alloc::{AllocError, Global};
 
-fn zeroes(alloc: Global, n: usize) -> Result<Box<Held>, AllocError>
-    ensures { IfOk result (λ held. held.value ≡ zeroes n) }
+fn zeroes(alloc: Global, n: usize) -> Result<Box<Contents>, AllocError>
+    ensures { IfOk result (λ contents. contents.value ≡ zeroes n) }
 {
     let octets = vec![in alloc; 0u8; n]?;
-    let held = Box::new(alloc, Held { octets })?;
-    Ok(held)
+    let contents = Box::new(alloc, Contents::of(octets))?;
+    Ok(contents)
 }
 
 impl Buffer {
@@ -26,13 +26,13 @@ impl Buffer {
         ensures ok { OnOk result (self.new.state ≡ Some (zeroes n)) }
         ensures err { OnErr result (self.new.state ≡ self.old.state) }
     {
-        if let Some(held) = self.take(alloc) {
-            self.put(held);
+        if let Some(contents) = self.take(alloc) {
+            self.put(contents);
             return Err(BufferRefusal::AlreadyMade);
         }
         match zeroes(alloc, n) {
-            Ok(held) => {
-                self.put(held);
+            Ok(contents) => {
+                self.put(contents);
                 Ok(())
             }
             Err(_) => Err(BufferRefusal::NoMemory),
@@ -59,12 +59,12 @@ impl Buffer {
         ensures kept { OnErr result ((at.new ≡ at.old) × (len.new ≡ len.old)) }
         ensures same { self.new.state ≡ self.old.state }
     {
-        let Some(mut held) = self.take(alloc) else {
+        let Some(mut contents) = self.take(alloc) else {
             return Err(BufferRefusal::NoBuffer);
         };
-        *at = held.octets.as_mut_ptr();
-        *len = held.octets.len();
-        self.put(held);
+        *at = contents.address();
+        *len = contents.len();
+        self.put(contents);
         Ok(())
     }
 
@@ -74,11 +74,11 @@ impl Buffer {
         ensures refused { result_err result ≡ buffer_refusal self.old.state }
         ensures after { self.new.state ≡ option_map (λ octets. take n octets) self.old.state }
     {
-        let Some(mut held) = self.take(alloc) else {
+        let Some(mut contents) = self.take(alloc) else {
             return Err(BufferRefusal::NoBuffer);
         };
-        held.octets.truncate(n);
-        self.put(held);
+        contents.truncate(n);
+        self.put(contents);
         Ok(())
     }
 }

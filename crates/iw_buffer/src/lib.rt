@@ -3,10 +3,12 @@
 
 mod buffer;
 mod calls;
-mod held;
+mod contents;
+mod lent;
 mod parts;
 mod refusal;
 
 pub use buffer::Buffer;
-pub use held::Held;
+pub use contents::Contents;
+pub use lent::Lent;
 pub use refusal::BufferRefusal;

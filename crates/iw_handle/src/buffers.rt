@@ -120,7 +120,7 @@ impl Handle {
         let Some(mut held) = self.take(alloc) else {
             return Err(Refusal::Closed);
         };
-        let Some(mut lent) = buffer.take(alloc) else {
+        let Some(mut lent) = buffer.take_vec(alloc) else {
             self.put(held);
             return Err(Refusal::NoBuffer);
         };
@@ -133,7 +133,7 @@ impl Handle {
             rights,
         );
         self.put(held);
-        buffer.put(lent);
+        buffer.put_vec(lent);
         done
     }
 
@@ -155,13 +155,13 @@ impl Handle {
         let Some(mut held) = self.take(alloc) else {
             return Err(Refusal::Closed);
         };
-        let Some(mut lent) = buffer.take(alloc) else {
+        let Some(mut lent) = buffer.take_vec(alloc) else {
             self.put(held);
             return Err(Refusal::NoBuffer);
         };
         let done = deregister_these(&mut held.endpoint, stag, &mut lent.octets);
         self.put(held);
-        buffer.put(lent);
+        buffer.put_vec(lent);
         done
     }
 
@@ -191,13 +191,13 @@ impl Handle {
         let Some(mut held) = self.take(alloc) else {
             return Err(Refusal::Closed);
         };
-        let Some(mut lent) = buffer.take(alloc) else {
+        let Some(mut lent) = buffer.take_vec(alloc) else {
             self.put(held);
             return Err(Refusal::NoBuffer);
         };
         let done = emit_onto(&mut held.endpoint, number, &mut lent.octets);
         self.put(held);
-        buffer.put(lent);
+        buffer.put_vec(lent);
         done
     }
 }

@@ -125,7 +125,7 @@ impl Handle {
         let Some(mut held) = self.take(alloc) else {
             return Err(Refusal::Closed);
         };
-        let Some(mut lent) = buffer.take(alloc) else {
+        let Some(mut lent) = buffer.take_vec(alloc) else {
             self.put(held);
             return Err(Refusal::NoBuffer);
         };
@@ -138,7 +138,7 @@ impl Handle {
             rights,
         );
         self.put(held);
-        buffer.put(lent);
+        buffer.put_vec(lent);
         done
     }
 }

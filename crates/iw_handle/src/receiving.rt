@@ -124,13 +124,13 @@ impl Handle {
         let Some(mut held) = self.take(alloc) else {
             return Err(Refusal::Closed);
         };
-        let Some(mut lent) = buffer.take(alloc) else {
+        let Some(mut lent) = buffer.take_vec(alloc) else {
             self.put(held);
             return Err(Refusal::NoBuffer);
         };
         *len = fetch_these(&mut held, alloc, number, &mut lent.octets);
         self.put(held);
-        buffer.put(lent);
+        buffer.put_vec(lent);
         Ok(())
     }
 
@@ -155,13 +155,13 @@ impl Handle {
         let Some(mut held) = self.take(alloc) else {
             return Err(Refusal::Closed);
         };
-        let Some(mut lent) = buffer.take(alloc) else {
+        let Some(mut lent) = buffer.take_vec(alloc) else {
             self.put(held);
             return Err(Refusal::NoBuffer);
         };
         let done = lend_these(&mut held.endpoint, alloc, number, &mut lent.octets);
         self.put(held);
-        buffer.put(lent);
+        buffer.put_vec(lent);
         done
     }
 
@@ -185,13 +185,13 @@ impl Handle {
         let Some(mut held) = self.take(alloc) else {
             return Err(Refusal::Closed);
         };
-        let Some(mut lent) = buffer.take(alloc) else {
+        let Some(mut lent) = buffer.take_vec(alloc) else {
             self.put(held);
             return Err(Refusal::NoBuffer);
         };
         let done = pool_these(&mut held.endpoint, alloc, pd, &mut lent.octets);
         self.put(held);
-        buffer.put(lent);
+        buffer.put_vec(lent);
         done
     }
 
@@ -215,13 +215,13 @@ impl Handle {
         let Some(mut held) = self.take(alloc) else {
             return Err(Refusal::Closed);
         };
-        let Some(mut lent) = buffer.take(alloc) else {
+        let Some(mut lent) = buffer.take_vec(alloc) else {
             self.put(held);
             return Err(Refusal::NoBuffer);
         };
         let done = take_these(&mut held.endpoint, pd, &mut lent.octets);
         self.put(held);
-        buffer.put(lent);
+        buffer.put_vec(lent);
         done
     }
 }

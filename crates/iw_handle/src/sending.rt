@@ -14,11 +14,11 @@ use crate::posting::reason_of;
 use crate::refusal::Refusal;
 use crate::words::{check_bits, has_bit, invalidated_by};
 use bytes::Bytes;
-use iw_buffer::Buffer;
+use iw_buffer::{Buffer, Contents};
 use iw_codes::numbers;
 use iw_endpoint::{Message, Request, Stag};
-use iw_lines::{Lines, Payload, Sent};
-use std::alloc::{AllocError, AllocFailed, Global};
+use iw_lines::{Lines, Payload};
+use std::alloc::{AllocError, Global};
 
 // Posts a request, which the program knows by this token, and keeps its octets.
 fn post_payload(
@@ -107,21 +107,6 @@ fn write_shared(
     post_payload(held, number, Request::Message(message), token, payload)
 }
 
-// Takes octets over, to share them. Only the count of those that share them is allocated.
-fn share(alloc: Global, octets: &mut Vec<u8>) -> Result<Bytes, AllocError>
-    ensures octets { IfOk result (λ shared. shared ≡ octets.old.items) }
-    ensures ok { OnOk result (octets.new.items ≡ []) }
-    ensures err { OnErr result (octets.new.items ≡ octets.old.items) }
-{
-    match Bytes::from_vec(std::mem::replace(octets, Vec::new(alloc))) {
-        Ok(shared) => Ok(shared),
-        Err(AllocFailed { value }) => {
-            *octets = value;
-            Err(AllocError)
-        }
-    }
-}
-
 // Moves octets that were not posted back to where they were, and returns why they were not. If there is no memory for that,
 // which no clause of `bytes` excludes, they wait at the stream.
 fn give_back(
@@ -129,20 +114,17 @@ fn give_back(
     alloc: Global,
     number: u32,
     shared: Bytes,
-    octets: &mut Vec<u8>,
+    octets: &mut Contents,
     refusal: Refusal,
 ) -> Refusal
-    ensures { ((result ≡ refusal) × (lines.new ≡ lines.old) × (octets.new.items ≡ shared)) ⊎ ((result ≡ Refusal.NoMemory)
+    ensures { ((result ≡ refusal) × (lines.new ≡ lines.old) × (octets.new ≡ shared)) ⊎ ((result ≡ Refusal.NoMemory)
         × (lines.new ≡ with_line lines.old number (with_sent (line_at lines.old number) shared))
-        × (octets.new.items ≡ octets.old.items)) }
+        × (octets.new ≡ octets.old)) }
 {
-    match Sent::shared(shared).into_vec(alloc) {
-        Ok(back) => {
-            *octets = back;
-            refusal
-        }
-        Err(sent) => {
-            lines.keep_sent(number, sent);
+    match octets.take_back(alloc, shared) {
+        Ok(()) => refusal,
+        Err(shared) => {
+            lines.keep_sent(number, shared);
             Refusal::NoMemory
         }
     }
@@ -153,24 +135,24 @@ fn send_these(
     held: &mut Held,
     alloc: Global,
     number: u32,
-    octets: &mut Vec<u8>,
+    octets: &mut Contents,
     flags: u32,
     stag: u32,
     token: u64,
 ) -> Result<(), Refusal>
-    ensures refused { IfSome (refusal_to_send held.old.endpoint number octets.old.items flags stag)
+    ensures refused { IfSome (refusal_to_send held.old.endpoint number octets.old flags stag)
         (λ _. IsErr result) }
     ensures why { IfErr result (λ e. (e ≡ Refusal.NoMemory) ⊎
-        (refusal_to_send held.old.endpoint number octets.old.items flags stag ≡ Some e)) }
+        (refusal_to_send held.old.endpoint number octets.old flags stag ≡ Some e)) }
     ensures bits { IfSome (bits_refusal 4 flags) (λ r. result ≡ Err r) }
     ensures ok { OnOk result
-        (held.new ≡ held_posted_from held.old number (sent octets.old.items flags stag) token octets.old.items) }
-    ensures taken { OnOk result (octets.new.items ≡ []) }
+        (held.new ≡ held_posted_from held.old number (sent octets.old flags stag) token octets.old) }
+    ensures taken { OnOk result (octets.new ≡ []) }
     ensures err { IfErr result
-        (λ e. HasKept (e ≡ Refusal.NoMemory) held.old number octets.old.items held.new octets.new.items) }
+        (λ e. HasKept (e ≡ Refusal.NoMemory) held.old number octets.old held.new octets.new) }
 {
     check_bits(4, flags)?;
-    let Ok(shared) = share(alloc, octets) else {
+    let Ok(shared) = octets.share(alloc) else {
         return Err(Refusal::NoMemory);
     };
     let solicited = has_bit(flags, numbers::SOLICITED);
@@ -188,20 +170,20 @@ fn write_these(
     number: u32,
     stag: Stag,
     to: u64,
-    octets: &mut Vec<u8>,
+    octets: &mut Contents,
     token: u64,
 ) -> Result<(), Refusal>
-    ensures refused { IfSome (refusal_to_post held.old.endpoint number (write_of stag to octets.old.items))
+    ensures refused { IfSome (refusal_to_post held.old.endpoint number (write_of stag to octets.old))
         (λ _. IsErr result) }
     ensures why { IfErr result (λ e. (e ≡ Refusal.NoMemory) ⊎
-        (refusal_to_post held.old.endpoint number (write_of stag to octets.old.items) ≡ Some e)) }
+        (refusal_to_post held.old.endpoint number (write_of stag to octets.old) ≡ Some e)) }
     ensures ok { OnOk result
-        (held.new ≡ held_posted_from held.old number (write_of stag to octets.old.items) token octets.old.items) }
-    ensures taken { OnOk result (octets.new.items ≡ []) }
+        (held.new ≡ held_posted_from held.old number (write_of stag to octets.old) token octets.old) }
+    ensures taken { OnOk result (octets.new ≡ []) }
     ensures err { IfErr result
-        (λ e. HasKept (e ≡ Refusal.NoMemory) held.old number octets.old.items held.new octets.new.items) }
+        (λ e. HasKept (e ≡ Refusal.NoMemory) held.old number octets.old held.new octets.new) }
 {
-    let Ok(shared) = share(alloc, octets) else {
+    let Ok(shared) = octets.share(alloc) else {
         return Err(Refusal::NoMemory);
     };
     match write_shared(held, alloc, number, stag, to, &shared, token) {
@@ -215,19 +197,16 @@ fn fetch_these(
     held: &mut Held,
     alloc: Global,
     number: u32,
-    octets: &mut Vec<u8>,
+    octets: &mut Contents,
 ) -> Result<(), Refusal>
     ensures memory { IfErr result (λ e. e ≡ Refusal.NoMemory) }
-    ensures octets { OnOk result (octets.new.items ≡ (line_at held.old.lines number).sent) }
+    ensures octets { OnOk result (octets.new ≡ (line_at held.old.lines number).sent) }
     ensures ok { OnOk result (held.new ≡ held_with_sent held.old number []) }
     ensures err { OnErr result (held.new ≡ held.old) }
-    ensures back { OnErr result (octets.new.items ≡ octets.old.items) }
+    ensures back { OnErr result (octets.new ≡ octets.old) }
 {
-    match held.lines.fetch_sent(alloc, number) {
-        Ok(sent) => {
-            *octets = sent;
-            Ok(())
-        }
+    match held.lines.fetch_sent(alloc, number, octets) {
+        Ok(()) => Ok(()),
         Err(AllocError) => Err(Refusal::NoMemory),
     }
 }
@@ -237,7 +216,8 @@ impl Handle {
     /// then has none. Once the Send is done or flushed, [`Handle::fetch_sent`] moves them into a buffer. An `Err` changes
     /// nothing, and the buffer keeps its octets; but with `NoMemory` they may wait at the stream in place of those that
     /// waited, if there is no memory to move them back either. `NoMemory` may come in place of a refusal of the stream's, since
-    /// the count of who shares the octets is allocated first.
+    /// the count of who shares the octets is allocated first, and room for as many, which the buffer keeps for when they come
+    /// back. That room is not written.
     pub fn post_send_buffer(
         &mut self,
         alloc: Global,
@@ -266,15 +246,7 @@ impl Handle {
             self.put(held);
             return Err(Refusal::NoBuffer);
         };
-        let done = send_these(
-            &mut held,
-            alloc,
-            number,
-            &mut lent.octets,
-            flags,
-            stag,
-            token,
-        );
+        let done = send_these(&mut held, alloc, number, &mut lent, flags, stag, token);
         self.put(held);
         buffer.put(lent);
         done
@@ -309,7 +281,7 @@ impl Handle {
             self.put(held);
             return Err(Refusal::NoBuffer);
         };
-        let done = write_these(&mut held, alloc, number, stag, to, &mut lent.octets, token);
+        let done = write_these(&mut held, alloc, number, stag, to, &mut lent, token);
         self.put(held);
         buffer.put(lent);
         done
@@ -317,7 +289,9 @@ impl Handle {
 
     /// Moves into a buffer the octets of the message that was done or flushed last at a stream, if it was posted from a
     /// buffer, and forgets them; none if it was not. The octets that the buffer had are freed. An `Err` changes nothing.
-    /// `NoMemory` comes only if no other refusal applies: nothing is copied as long as nothing else shares the octets.
+    /// They are not written, and can be posted again so; a call that makes them a region or a receive buffer, or puts a frame
+    /// behind them, first writes each onto itself. `NoMemory` comes only if no other refusal applies: nothing is copied as long
+    /// as nothing else shares the octets.
     pub fn fetch_sent(
         &mut self,
         alloc: Global,
@@ -339,7 +313,7 @@ impl Handle {
             self.put(held);
             return Err(Refusal::NoBuffer);
         };
-        let done = fetch_these(&mut held, alloc, number, &mut lent.octets);
+        let done = fetch_these(&mut held, alloc, number, &mut lent);
         self.put(held);
         buffer.put(lent);
         done

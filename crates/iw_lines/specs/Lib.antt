@@ -1,4 +1,3 @@
 pub mod Handed
 pub mod Line
 pub mod Lines
-pub mod Sent

@@ -7,11 +7,9 @@ mod line;
 mod lines;
 mod payload;
 mod place;
-mod sent;
 
 pub use handed::Handed;
 pub use line::{Line, MAX_TOKENS};
 pub use lines::Lines;
 pub use payload::Payload;
 pub use place::Place;
-pub use sent::Sent;

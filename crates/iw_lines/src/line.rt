@@ -1,13 +1,13 @@
-ghost use Rattle.std.specs.Prelude.{◌≡◌, [], IfOk, OnOk, OnErr};
+ghost use Rattle.std.specs.Prelude.{◌≡◌, [], OnOk, OnErr};
 ghost use Rattle.iw_lines.specs.Line.{new_line, with_handed, with_token, with_payload, oldest_token, without_oldest, with_lent, with_sent};
 ghost use Rattle.iw_lines.specs.Line.{with_posted, without_token, with_flag, with_octets, is_from_buffer, without_flag, without_payload, oldest_payload};
 ghost use Rattle.iw_lines.specs.Handed.{nothing_handed};
 
 use crate::handed::Handed;
 use crate::payload::Payload;
-use crate::sent::Sent;
 use arrayvec::ArrayVec;
 use bytes::Bytes;
+use iw_buffer::Contents;
 use std::alloc::{AllocError, Global};
 use std::collections::LinkedList;
 
@@ -28,7 +28,7 @@ pub struct Line {
     /// The octets of those that were, oldest first.
     pub payloads: LinkedList<Bytes>,
     /// The octets of the message that was done or flushed last and not yet fetched; none if it was not posted from a buffer.
-    pub sent: Sent,
+    pub sent: Bytes,
 }
 
 impl Line {
@@ -41,7 +41,7 @@ impl Line {
             lent: 0,
             from_buffer: ArrayVec::new(),
             payloads: LinkedList::new(alloc),
-            sent: Sent::nothing(),
+            sent: Bytes::new(),
         }
     }
 
@@ -134,32 +134,34 @@ impl Line {
     }
 
     // Takes out the oldest octets that are kept.
-    fn pop_octets(&mut self) -> Sent
+    fn pop_octets(&mut self) -> Bytes
         ensures octets { result ≡ oldest_payload self.old }
         ensures after { self.new ≡ without_payload self.old }
     {
         match self.payloads.pop_front() {
-            Some(octets) => Sent::shared(octets),
-            None => Sent::nothing(),
+            Some(octets) => octets,
+            None => Bytes::new(),
         }
     }
 
     /// Keeps octets to be fetched; those that were kept for that before are freed.
-    pub(crate) fn keep_sent(&mut self, sent: Sent)
+    pub(crate) fn keep_sent(&mut self, sent: Bytes)
         ensures { self.new ≡ with_sent self.old sent }
     {
         self.sent = sent;
     }
 
-    /// Hands out the octets that are kept to be fetched. An `Err` means out of memory, and changes nothing.
-    pub(crate) fn fetch_sent(&mut self, alloc: Global) -> Result<Vec<u8>, AllocError>
-        ensures octets { IfOk result (λ octets. octets.items ≡ self.old.sent) }
+    /// Moves the octets that are kept to be fetched to where they are wanted, in place of those that were there. An `Err`
+    /// means out of memory, and changes nothing.
+    pub(crate) fn fetch_sent(&mut self, alloc: Global, to: &mut Contents) -> Result<(), AllocError>
+        ensures octets { OnOk result (to.new ≡ self.old.sent) }
         ensures ok { OnOk result (self.new ≡ with_sent self.old []) }
         ensures err { OnErr result (self.new ≡ self.old) }
+        ensures back { OnErr result (to.new ≡ to.old) }
     {
-        let sent = std::mem::replace(&mut self.sent, Sent::nothing());
-        match sent.into_vec(alloc) {
-            Ok(octets) => Ok(octets),
+        let sent = std::mem::replace(&mut self.sent, Bytes::new());
+        match to.take_back(alloc, sent) {
+            Ok(()) => Ok(()),
             Err(sent) => {
                 self.sent = sent;
                 Err(AllocError)
@@ -185,7 +187,7 @@ impl Line {
         self.sent = if self.pop_flag() {
             self.pop_octets()
         } else {
-            Sent::nothing()
+            Bytes::new()
         };
     }
 }

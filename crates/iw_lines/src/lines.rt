@@ -3,7 +3,8 @@ ghost use Rattle.std.specs.Prelude.{◌≡◌, [], IfOk, IsSome, OnOk, OnErr};
 use crate::handed::Handed;
 use crate::payload::Payload;
 use crate::place::Place;
-use crate::sent::Sent;
+use bytes::Bytes;
+use iw_buffer::Contents;
 use std::alloc::{AllocError, Global};
 use std::collections::HashMap;
 use std::hash::{BuildHasherDefault, FoldHasher};
@@ -137,7 +138,7 @@ impl Lines {
 
     /// Keeps octets to be fetched at a stream; those that were kept for that before are freed. It does nothing for a number
     /// that has no line.
-    pub fn keep_sent(&mut self, number: u32, sent: Sent)
+    pub fn keep_sent(&mut self, number: u32, sent: Bytes)
         ensures { self.new ≡ with_line self.old number (with_sent (line_at self.old number) sent) }
     {
         let Some(place) = self.places.get_mut(&number) else {
@@ -146,17 +147,25 @@ impl Lines {
         place.keep_sent(sent);
     }
 
-    /// Hands out the octets of the message that was taken out last at a stream, if it was posted from a buffer; none
-    /// otherwise, and once they were fetched. An `Err` means out of memory, and changes nothing.
-    pub fn fetch_sent(&mut self, alloc: Global, number: u32) -> Result<Vec<u8>, AllocError>
-        ensures octets { IfOk result (λ octets. octets.items ≡ (line_at self.old number).sent) }
+    /// Moves the octets of the message that was taken out last at a stream to where they are wanted, in place of those that were
+    /// there, if it was posted from a buffer; none otherwise, and once they were fetched. None is copied, unless something else
+    /// still shares them. An `Err` means out of memory, and changes nothing.
+    pub fn fetch_sent(
+        &mut self,
+        alloc: Global,
+        number: u32,
+        to: &mut Contents,
+    ) -> Result<(), AllocError>
+        ensures octets { OnOk result (to.new ≡ (line_at self.old number).sent) }
         ensures ok { OnOk result (self.new ≡ with_line self.old number (with_sent (line_at self.old number) [])) }
         ensures err { OnErr result (self.new ≡ self.old) }
+        ensures back { OnErr result (to.new ≡ to.old) }
     {
         let Some(place) = self.places.get_mut(&number) else {
-            return Ok(Vec::new(alloc));
+            *to = Contents::nothing(alloc);
+            return Ok(());
         };
-        place.fetch_sent(alloc)
+        place.fetch_sent(alloc, to)
     }
 
     /// The oldest token of a stream; 0 if it has none.

@@ -5,7 +5,8 @@ ghost use Rattle.iw_lines.specs.Handed.{nothing_handed, told_of};
 use crate::handed::Handed;
 use crate::line::Line;
 use crate::payload::Payload;
-use crate::sent::Sent;
+use bytes::Bytes;
+use iw_buffer::Contents;
 use std::alloc::{AllocError, Global};
 use std::marker::Model;
 
@@ -62,18 +63,19 @@ impl Place {
         self.line.push_payload(token, payload);
     }
 
-    pub(crate) fn keep_sent(&mut self, sent: Sent)
+    pub(crate) fn keep_sent(&mut self, sent: Bytes)
         ensures { self.new ≡ with_sent self.old sent }
     {
         self.line.keep_sent(sent);
     }
 
-    pub(crate) fn fetch_sent(&mut self, alloc: Global) -> Result<Vec<u8>, AllocError>
-        ensures octets { IfOk result (λ octets. octets.items ≡ self.old.sent) }
+    pub(crate) fn fetch_sent(&mut self, alloc: Global, to: &mut Contents) -> Result<(), AllocError>
+        ensures octets { OnOk result (to.new ≡ self.old.sent) }
         ensures ok { OnOk result (self.new ≡ with_sent self.old []) }
         ensures err { OnErr result (self.new ≡ self.old) }
+        ensures back { OnErr result (to.new ≡ to.old) }
     {
-        self.line.fetch_sent(alloc)
+        self.line.fetch_sent(alloc, to)
     }
 
     pub(crate) fn oldest(&self) -> u64

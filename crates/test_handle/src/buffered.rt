@@ -156,3 +156,29 @@ fn flushed(rt: HostRuntime) -> Result<(), Fail> {
     assert_eq!(rt; len_of(alloc, &mut buffer)?, 8);
     Ok(())
 }
+
+// What came back is posted again, shorter, and then has a frame put behind it, and is a region.
+#[test]
+fn sent_again(rt: HostRuntime) -> Result<(), Fail> {
+    let alloc = rt.alloc();
+    let mut handle = ready(alloc)?;
+    let mut buffer = Buffer::none(alloc);
+    let mut frames = Buffer::none(alloc);
+    frames.make(alloc, 0)?;
+    buffer.make(alloc, 32)?;
+    handle.post_send_buffer(alloc, STREAM, &mut buffer, 0, 0, 1)?;
+    handle.emit_onto(alloc, STREAM, &mut frames)?;
+    assert_eq!(rt; next_sent(&mut handle, alloc, &mut buffer)?, (1, 32));
+    buffer.truncate(alloc, 16)?;
+    handle.post_send_buffer(alloc, STREAM, &mut buffer, 0, 0, 2)?;
+    handle.emit_onto(alloc, STREAM, &mut frames)?;
+    assert_eq!(rt; next_sent(&mut handle, alloc, &mut buffer)?, (2, 16));
+    handle.post_send(alloc, STREAM, b"hi", 0, 0, 3)?;
+    handle.emit_onto(alloc, STREAM, &mut buffer)?;
+    assert_eq!(rt; len_of(alloc, &mut buffer)?, 44);
+    let stag = handle.register_buffer(alloc, 1, 0, &mut buffer, 1)?;
+    assert_eq!(rt; len_of(alloc, &mut buffer)?, 0);
+    handle.deregister_buffer(alloc, stag, &mut buffer)?;
+    assert_eq!(rt; len_of(alloc, &mut buffer)?, 44);
+    Ok(())
+}

@@ -1,5 +1,5 @@
 use Rattle.std.proofs.Common.{rules, ◌≡◌, ◌∙◌, sym, ap, subst, Some, None, []}
-use Rattle.std.specs.Prelude.{nat_eq, IfOk}
+use Rattle.std.specs.Prelude.{nat_eq, OnOk}
 use Rattle.std.specs.HashMap as hash
 use Rattle.iw_lines.specs.declared.line.Line.{Line}
 use Rattle.iw_lines.specs.Line.{with_sent}
@@ -9,7 +9,7 @@ use Rattle.iw_lines.proofs.lines.Lines.fetch_sent.Goals as goal
 pub returns-in_default-clause-octets : goal.returns-in_default-clause-octets
 returns-in_default-clause-octets c =
     let none : hash.get nat_eq c.self.inside.places c.args.number ≡ None = search rules in
-    c.new.ensures.items ∙ ap (λ line. line.sent) (found_nothing c.self.inside.places c.args.self.now c.args.number c.self.view_is c.ranges.number.fits none)
+    c.nothing.ensures ∙ ap (λ line. line.sent) (found_nothing c.self.inside.places c.args.self.now c.args.number c.self.view_is c.ranges.number.fits none)
 
 pub returns-in_default-clause-ok : goal.returns-in_default-clause-ok
 returns-in_default-clause-ok c =
@@ -20,7 +20,7 @@ pub returns-clause-octets : goal.returns-clause-octets
 returns-clause-octets c =
     let was : hash.get nat_eq c.self.inside.places c.args.number ≡ Some c.in-Some.place.now = search rules in
     let here = found c.self.inside.places c.args.self.now c.args.number c.in-Some.place.now c.self.view_is c.ranges.number.fits was in
-    subst (λ (line : Line). IfOk c.fetch_sent.result (λ octets. octets.items ≡ line.sent)) here c.fetch_sent.ensures.octets
+    subst (λ (line : Line). OnOk c.fetch_sent.result (c.fetch_sent.new.to ≡ line.sent)) here c.fetch_sent.ensures.octets
 
 pub returns-clause-ok : goal.returns-clause-ok
 returns-clause-ok c =
