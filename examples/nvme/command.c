@@ -112,31 +112,38 @@ void command_free_spares(struct queue *queue) {
     }
 }
 
-/* Takes a buffer of this size: one that is kept, or a new one. Returns whether there is room for it. */
-static int take_buffer(struct queue *queue, size_t size, struct iwarp_buffer *buffer) {
+/* Takes a buffer that is kept for data of this command's length and direction. Returns whether there was one. */
+static int take_spare(struct queue *queue, struct command *command) {
     for (uint32_t i = queue->spare_count; i > 0; i--) {
         struct spare *spare = &queue->spares[i - 1];
-        if (spare->size != size) continue;
-        *buffer = spare->buffer;
+        if (spare->size != command->length || spare->direction != command->direction) continue;
+        command->buffer = spare->buffer;
         *spare = queue->spares[--queue->spare_count];
         return 1;
     }
+    return 0;
+}
+
+/* Makes the command a buffer for its data. Returns whether there is room for it. */
+static int make_buffer(struct queue *queue, struct command *command) {
+    size_t size = command->length;
     if (queue->held + size > MOST_DATA) command_free_spares(queue);
-    if (queue->held + size > MOST_DATA || iwarp_buffer_new(size, buffer) != IWARP_OK) return 0;
+    if (queue->held + size > MOST_DATA || iwarp_buffer_new(size, &command->buffer) != IWARP_OK) return 0;
     queue->held += size;
     return 1;
 }
 
 /* Sees to it that the command has a buffer for its data, as long as that. Returns 0 if it has to wait for others to end. */
 static int has_buffer(struct command *command) {
+    struct queue *queue = command->queue;
     size_t all;
-    if (command->size == 0 && take_buffer(command->queue, command->length, &command->buffer)) command->size = command->length;
+    if (command->size == 0 && (take_spare(queue, command) || make_buffer(queue, command))) command->size = command->length;
     return command->size > 0 && iwarp_buffer_at(&command->buffer, &command->data, &all) == IWARP_OK;
 }
 
 /* The command has its buffer no longer. */
 static struct spare leave_buffer(struct command *command) {
-    struct spare left = {command->buffer, command->size};
+    struct spare left = {command->buffer, command->size, command->direction};
     command->buffer = (struct iwarp_buffer)IWARP_NO_BUFFER;
     command->size = 0;
     return left;
@@ -256,13 +263,12 @@ void command_forget(struct command *command) {
     if (release(command) != IWARP_OK) queue_close(command->queue);
 }
 
-/* Posts a copy: a buffer that is posted itself comes back slower than it is copied (bench/README.md). The buffer is kept until the
- * Write is done, so that there are no more octets of copies than of buffers. */
+/* Posts the buffer's octets themselves. They come back into it once the Write is done (queue.c). */
 static int32_t write_data(struct command *command) {
     struct queue *queue = command->queue;
     const uint8_t *sgl = command->sqe + SQE_SGL;
     uint32_t key = (uint32_t)field(sgl + SGL_KEY, 4);
-    int32_t code = endpoint_write(&queue->endpoint, key, field(sgl + SGL_ADDRESS, 8), command->data, command->length);
+    int32_t code = endpoint_write_buffer(&queue->endpoint, key, field(sgl + SGL_ADDRESS, 8), &command->buffer);
     if (code == IWARP_OK) note(queue, (struct posted){.written = leave_buffer(command)});
     return code;
 }

@@ -123,6 +123,14 @@ int32_t endpoint_read(struct endpoint *endpoint, uint32_t sink, size_t n, uint32
     return iwarp_post_read(endpoint->handle, endpoint->stream, sink, 0, (uint32_t)n, source, source_to, NO_TOKEN);
 }
 
+int32_t endpoint_write_buffer(struct endpoint *endpoint, uint32_t stag, uint64_t to, struct iwarp_buffer *buffer) {
+    return iwarp_post_write_buffer(endpoint->handle, endpoint->stream, stag, to, buffer, NO_TOKEN);
+}
+
+int32_t endpoint_fetch_sent(struct endpoint *endpoint, struct iwarp_buffer *buffer) {
+    return iwarp_fetch_sent(endpoint->handle, endpoint->stream, buffer);
+}
+
 int32_t endpoint_register(struct endpoint *endpoint, uint64_t base, struct iwarp_buffer *buffer, uint32_t rights, uint32_t *stag) {
     return iwarp_register_buffer(endpoint->handle, endpoint->domain, base, buffer, rights, stag);
 }

@@ -61,6 +61,10 @@ int32_t endpoint_write(struct endpoint *endpoint, uint32_t stag, uint64_t to, co
 int32_t endpoint_send(struct endpoint *endpoint, const uint8_t *octets, size_t n, uint32_t stag);
 int32_t endpoint_read(struct endpoint *endpoint, uint32_t sink, size_t n, uint32_t source, uint64_t source_to);
 
+/* Posts a Write of a buffer's octets themselves. endpoint_fetch_sent gives them back once it is done. */
+int32_t endpoint_write_buffer(struct endpoint *endpoint, uint32_t stag, uint64_t to, struct iwarp_buffer *buffer);
+int32_t endpoint_fetch_sent(struct endpoint *endpoint, struct iwarp_buffer *buffer);
+
 /* Registers a buffer's octets, the first at tagged offset `base`: for all streams of the domain, or as a sink for this stream
  * alone, the first at 0. */
 int32_t endpoint_register(struct endpoint *endpoint, uint64_t base, struct iwarp_buffer *buffer, uint32_t rights, uint32_t *stag);

@@ -176,6 +176,16 @@ static void take_capsule(struct queue *queue) {
     command_begin(command, n);
 }
 
+/* A Write is done: its octets come back into its buffer, which is kept. */
+static void take_written(struct queue *queue, struct spare *written) {
+    if (endpoint_fetch_sent(&queue->endpoint, &written->buffer) == IWARP_OK) {
+        command_keep(queue, written);
+    } else {
+        iwarp_buffer_free(&written->buffer);
+        queue_close(queue);
+    }
+}
+
 /* The oldest posted message is done. */
 static void take_done(struct queue *queue) {
     struct posted posted = queue->posted[queue->first];
@@ -185,7 +195,7 @@ static void take_done(struct queue *queue) {
         queue->reads--;
         command_fetched(posted.command);
     } else if (posted.written.size > 0) {
-        command_keep(queue, &posted.written);
+        take_written(queue, &posted.written);
     }
 }
 

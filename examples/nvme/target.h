@@ -98,16 +98,18 @@ struct list {
     struct command *first, **last;
 };
 
-/* A buffer of a queue that no command has. */
+/* A buffer of a queue that no command has. It is kept for data of one direction: what was posted and came back has to be written
+ * once more before it can be a sink. */
 struct spare {
     struct iwarp_buffer buffer;
     size_t size;
+    enum direction direction;
 };
 
 /* What was posted, in order, until the library has handed it back: all 0 of a Send. */
 struct posted {
     struct command *command; /* of a Read */
-    struct spare written; /* the buffer of a Write, of which a copy was posted */
+    struct spare written; /* the buffer of a Write, which has no octets until they come back */
 };
 
 enum queue_state { AWAITS_REQUEST, AWAITS_CONNECT, CONNECTED, DRAINS, CLOSED };
