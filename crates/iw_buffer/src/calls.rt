@@ -77,7 +77,7 @@ impl Buffer {
         let Some(mut contents) = self.take(alloc) else {
             return Err(BufferRefusal::NoBuffer);
         };
-        contents.truncate(n);
+        contents.truncate(alloc, n);
         self.put(contents);
         Ok(())
     }

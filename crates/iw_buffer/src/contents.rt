@@ -74,13 +74,18 @@ impl Contents {
         }
     }
 
-    /// Keeps the first `n` octets, or all if there are no more. The memory of the others stays.
-    pub fn truncate(&mut self, n: usize)
+    /// Keeps the first `n` octets, or all if there are no more. Memory for the others stays.
+    pub fn truncate(&mut self, alloc: Global, n: usize)
         ensures { self.new ≡ take n self.old }
     {
         match &mut self.form {
             Form::Vector(octets) => octets.truncate(n),
-            Form::Returned(octets, _) => octets.truncate(n),
+            Form::Returned(octets, room) => {
+                octets.truncate(n);
+                if n == 0 {
+                    self.form = Form::Vector(std::mem::replace(room, Vec::new(alloc)));
+                }
+            }
         }
     }
 
@@ -181,6 +186,10 @@ impl Contents {
         ensures back { IfErr result (λ back. back ≡ shared) }
     {
         let mut room = self.take_room(alloc);
+        if shared.is_empty() {
+            self.set(room);
+            return Ok(());
+        }
         if room.reserve(shared.len()).is_err() {
             self.put_room(room);
             return Err(shared);
