@@ -132,7 +132,7 @@ four_small a b c d ha hb hc hd (suc (suc zero)) lt = hc
 four_small a b c d ha hb hc hd (suc (suc (suc zero))) lt = hd
 four_small a b c d ha hb hc hd (suc (suc (suc (suc i)))) lt = absurd (omega arith)
 
-little_of_four : (remainder : ℕ) → remainder < 2 ^ 32 → little (to_le_bytes w32 remainder) ≡ remainder
+pub little_of_four : (remainder : ℕ) → remainder < 2 ^ 32 → little (to_le_bytes w32 remainder) ≡ remainder
 little_of_four remainder small =
     little_sum (to_le_bytes w32 remainder) (four_small (remainder % 256) (remainder / 256 % 256) (remainder / 65536 % 256) (remainder / 16777216 % 256) (omega arith) (omega arith) (omega arith) (omega arith))
     ∙ omega arith

@@ -23,7 +23,7 @@ after_bits-five n a b c d e =
     ∙ ap (λ x. bit_xor x (after_bits n e)) (after_bits-xor n (bit_xor (bit_xor a b) c) d
     ∙ ap (λ x. bit_xor x (after_bits n d)) (after_bits-xor n (bit_xor a b) c ∙ ap (λ x. bit_xor x (after_bits n c)) (after_bits-xor n a b)))
 
-shifted-xor : (a b : ℕ) → bit_xor (a * 2 ^ 8) (b * 2 ^ 8) ≡ bit_xor a b * 2 ^ 8
+pub shifted-xor : (a b : ℕ) → bit_xor (a * 2 ^ 8) (b * 2 ^ 8) ≡ bit_xor a b * 2 ^ 8
 shifted-xor a b =
     let left : a * 2 ^ 8 ≡ a * 2 ^ 8 + 0 = omega arith in
     let right : b * 2 ^ 8 ≡ b * 2 ^ 8 + 0 = omega arith in

@@ -7,6 +7,7 @@ pub mod TableRules
 pub mod Words
 pub mod Folds
 pub mod FoldSteps
+pub mod Sixteens
 pub mod Stags
 pub mod Again
 pub mod PartLemmas

@@ -12,3 +12,4 @@ pub mod Pieces
 pub mod Crc
 pub mod CrcWords
 pub mod Fold
+pub mod Lanes

@@ -4,6 +4,7 @@ ghost use Rattle.iw_octets.specs.Crc.{after_bits, after_octet, after_octets, all
 ghost use Rattle.iw_octets.specs.CrcWords.{octet_in, word_in};
 
 use crate::fold::folded;
+use crate::lanes::shortened;
 use crate::tables::{TURN_TABLES, WORD_TABLES};
 use std::marker::Model;
 
@@ -180,24 +181,36 @@ fn run_added(remainder: u32, octets: &[u8]) -> u32
     words_added(so_far, &octets[32 * turns + 32..])
 }
 
-/// The 290 octets that are left of a long run: nine turns, and two octets.
+/// The 96 octets that are left of a run: three turns.
 #[inline(always)]
-fn span_added(octets: &[u8]) -> u32
-    requires { length octets.now ≡ 290 }
+fn rest_added(octets: &[u8]) -> u32
+    requires { length octets.now ≡ 96 }
     ensures { result ≡ after_octets 0 octets.now }
 {
-    let so_far = turns_added(0, octets, 8);
-    octets_added(so_far, &octets[288..])
+    turns_added(0, octets, 2)
 }
 
-/// The remainder after any octets. Of a long run, all but the last 290 are folded away.
+/// The remainder after octets that are folded away sixteen at a time, all but the last 96 to 111.
+fn sixteens_added(remainder: u32, octets: &[u8]) -> u32
+    requires { 96 ≤ length octets.now }
+    ensures { result ≡ after_octets remainder octets.now }
+{
+    let steps = octets.len() / 16 - 6;
+    let so_far = rest_added(&shortened(remainder, octets, steps));
+    words_added(so_far, &octets[16 * steps + 96..])
+}
+
+/// The remainder after any octets. Of a long run, all but the last 290 are folded away first.
 fn added(remainder: u32, octets: &[u8]) -> u32
     ensures { result ≡ after_octets remainder octets.now }
 {
-    if octets.len() < 600 {
+    if octets.len() < 112 {
         return run_added(remainder, octets);
     }
-    span_added(&folded(remainder, octets))
+    if octets.len() < 800 {
+        return sixteens_added(remainder, octets);
+    }
+    sixteens_added(0, &folded(remainder, octets))
 }
 
 /// The CRC-32C of octets that are added in pieces (RFC 5044 4.4).

@@ -12,7 +12,7 @@ const BLOCK: usize = 2048;
 const WINDOW: usize = BLOCK + SPAN;
 
 /// Writes octets over the first of others.
-fn put_front(out: &mut [u8], octets: &[u8])
+pub(crate) fn put_front(out: &mut [u8], octets: &[u8])
     requires { length octets.now ≤ length out.old }
     ensures { out.new ≡ octets.now ++ drop (length octets.now) out.old }
 {

@@ -14,6 +14,7 @@ mod crc;
 mod fault;
 mod fold;
 mod head;
+mod lanes;
 mod laws;
 mod message;
 mod octets;
