@@ -97,11 +97,11 @@ padded w zs none i = elim (cases_lt i (length w)) [
   | inr past ↦ get_or-append_right w zs (length w) i 0 refl past ∙ none (i - length w) ∙ sym (get_or_past w i 0 past)
 ]
 
-owed_next_padded : (w : List ℕ) (m n k : ℕ) → owed_next (drop k (w ++ zeros m n)) ≡ owed_next (drop k w)
-owed_next_padded w m n k =
-    let zs = zeros m n in
+owed_next_padded : (w : List ℕ) (n k : ℕ) → owed_next (drop k (w ++ zeros n 0)) ≡ owed_next (drop k w)
+owed_next_padded w n k =
+    let zs = zeros n 0 in
     let at : (d : ℕ) → get_or (drop k (w ++ zs)) d 0 ≡ get_or (drop k w) d 0 = λ d.
-    get_or-drop k (w ++ zs) d 0 ∙ padded w zs (get_or-zeros m n) (k + d) ∙ sym (get_or-drop k w d 0) in
+    get_or-drop k (w ++ zs) d 0 ∙ padded w zs (get_or-zeros n 0) (k + d) ∙ sym (get_or-drop k w d 0) in
     λ i. sum_of_five (at 0 i) (at 32 i) (at 107 i) (at 113 i) (at 136 i)
 
 -- one octet more is settled
@@ -118,12 +118,12 @@ one_settled settled octets window i octet room is each = λ k lt. elim (cases_lt
 ]
 
 -- octets that were settled against a window with zeros behind it
-pub settled_step : (settled octets w : List ℕ) (m n : ℕ) → length settled ≡ 290 → length octets ≡ 290 → length w ≡ 290
-    → ((k : ℕ) → k < 290 → get_or settled k 0 ≡ bit_xor (get_or octets k 0) (owed_next (drop k (w ++ zeros m n))))
+pub settled_step : (settled octets w : List ℕ) (n : ℕ) → length settled ≡ 290 → length octets ≡ 290 → length w ≡ 290
+    → ((k : ℕ) → k < 290 → get_or settled k 0 ≡ bit_xor (get_or octets k 0) (owed_next (drop k (w ++ replicate n 0))))
     → after_octets 0 settled ≡ remainder_with w octets
-settled_step settled octets w m n ls lo lw each =
+settled_step settled octets w n ls lo lw each =
     remainder_settled octets w settled (ls ∙ sym lo) (omega (arith, lw, lo))
-    (λ k lt. each k (omega (arith, lt, lo)) ∙ ap (bit_xor (get_or octets k 0)) (owed_next_padded w m n k))
+    (λ k lt. each k (omega (arith, lt, lo)) ∙ ap (bit_xor (get_or octets k 0)) (owed_next_padded w n k))
 
 four_small : (a b c d : ℕ) → a < 256 → b < 256 → c < 256 → d < 256 → (i : ℕ) → i < 4 → get_or (a ∷ b ∷ c ∷ d ∷ []) i 0 < 256
 four_small a b c d ha hb hc hd zero lt = ha
@@ -160,7 +160,7 @@ opened_step remainder w m n small is octets = remainder_starts remainder (take 2
         get_or-drop d (take 290 w) i 0 ∙ told (d + i) ∙ get_or_past (to_le_bytes w32 remainder) (d + i) 0 past)
 
 -- the window's last octets, moved to its front
-pub moved_window : (w w' : List ℕ) → length w ≡ 2338 → w' ≡ copy_within w 2048 2338 0 → take 290 w' ≡ take 290 (drop 2048 w)
+pub moved_window : (w w' : List ℕ) → length w ≡ 2474 → w' ≡ copy_within w 2048 2338 0 → take 290 w' ≡ take 290 (drop 2048 w)
 moved_window w w' long is =
     let room : 290 ≤ length (drop 2048 w) = omega (arith, long, length-drop 2048 w) in
     let none : 0 ≤ length w = omega arith in

@@ -1,4 +1,4 @@
-ghost use Rattle.std.specs.Prelude.{◌≡◌, ◌<◌, ◌≤◌, ◌+◌, ◌++◌, List, ℕ, length, take, drop, bit_xor};
+ghost use Rattle.std.specs.Prelude.{◌≡◌, ◌<◌, ◌≤◌, ◌+◌, ◌++◌, List, ℕ, length, take, drop, replicate, bit_xor};
 ghost use Rattle.iw_octets.specs.Crc.{after_octets};
 ghost use Rattle.iw_octets.specs.Fold.{owed_next, remainder_with, Folds};
 
@@ -8,8 +8,11 @@ pub(crate) const SPAN: usize = 290;
 /// So many octets are folded at a time.
 const BLOCK: usize = 2048;
 
-/// The last octets before a block, and the block's.
-const WINDOW: usize = BLOCK + SPAN;
+/// The last octet of a window that is added to the next octet stands so far from the first.
+const REACH: usize = 136;
+
+/// The last octets before a block, the block's, and room for zeros behind them.
+const WINDOW: usize = BLOCK + SPAN + REACH;
 
 /// Writes octets over the first of others.
 pub(crate) fn put_front(out: &mut [u8], octets: &[u8])
@@ -27,29 +30,54 @@ fn with_owed(octet: u8, window: &[u8], at: usize) -> u8
     octet ^ (window[at] ^ window[at + 32] ^ window[at + 107] ^ window[at + 113] ^ window[at + 136])
 }
 
+/// Folds 64 octets of a block away, from a place on.
+#[inline(always)]
+fn fold_piece(window: &mut [u8], block: &[u8], at: usize)
+    requires block { (length block.now ≤ 2048) × (at + 64 ≤ length block.now) }
+    requires window { length window.old ≡ 2474 }
+    ensures folds { (first : List ℕ) → Folds first (take at block.now) (take 290 (drop at window.old))
+        → Folds first (take (at + 64) block.now) (take 290 (drop (at + 64) window.new)) }
+{
+    for i in 0..64 {
+        let octet = with_owed(block[at + i], window, at + i);
+        window[at + i + SPAN] = octet;
+    }
+}
+
 /// Folds a block away: the octets of the window from the block's length on are then the last that were folded.
 fn fold(window: &mut [u8], block: &[u8])
     requires block { length block.now ≤ 2048 }
-    requires window { length window.old ≡ 2338 }
+    requires window { length window.old ≡ 2474 }
     ensures { Folds (take 290 window.old) block.now (take 290 (drop (length block.now) window.new)) }
 {
-    for i in 0..block.len() {
+    let pieces = block.len() / 64;
+    for piece in 0..pieces {
+        fold_piece(window, block, 64 * piece);
+    }
+    for i in 64 * pieces..block.len() {
         let octet = with_owed(block[i], window, i);
         window[i + SPAN] = octet;
     }
 }
 
-/// Octets with what a window adds to them.
-fn settled(window: &[u8], octets: &[u8]) -> [u8; SPAN]
-    requires window { length window.now ≡ 290 }
-    requires octets { length octets.now ≡ 290 }
-    ensures { after_octets 0 result ≡ remainder_with window.now octets.now }
+/// Clears what stands behind the last octets that were folded.
+fn clear_behind(window: &mut [u8])
+    requires { length window.old ≡ 426 }
+    ensures { window.new ≡ take 290 window.old ++ replicate 136 0 }
 {
-    let mut padded = [0; SPAN + SPAN];
-    put_front(&mut padded, window);
+    window[SPAN..].fill(0);
+}
+
+/// Octets with what a window adds to them.
+fn settled(window: &mut [u8], octets: &[u8]) -> [u8; SPAN]
+    requires window { length window.old ≡ 426 }
+    requires octets { length octets.now ≡ 290 }
+    ensures { after_octets 0 result ≡ remainder_with (take 290 window.old) octets.now }
+{
+    clear_behind(window);
     let mut settled = [0; SPAN];
     for i in 0..SPAN {
-        let octet = with_owed(octets[i], &padded, i);
+        let octet = with_owed(octets[i], window, i);
         settled[i] = octet;
     }
     settled
@@ -74,9 +102,10 @@ pub(crate) fn folded(remainder: u32, octets: &[u8]) -> [u8; SPAN]
     let blocks = front.len() / BLOCK;
     for block in 0..blocks {
         fold(&mut window, &front[BLOCK * block..BLOCK * block + BLOCK]);
-        window.copy_within(BLOCK..WINDOW, 0);
+        window.copy_within(BLOCK..BLOCK + SPAN, 0);
     }
     let tail = &front[BLOCK * blocks..];
     fold(&mut window, tail);
-    settled(&window[tail.len()..tail.len() + SPAN], back)
+    let last = tail.len();
+    settled(&mut window[last..last + SPAN + REACH], back)
 }

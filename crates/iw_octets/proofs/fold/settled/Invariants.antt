@@ -5,5 +5,5 @@ use Rattle.iw_octets.proofs.fold.settled.Given as goal
 abbrev pub invariant-loop-i : goal.invariant-loop-i
 invariant-loop-i l = record {
   long : length l.settled ≡ 290;
-  each : (k : ℕ) → k < l.i → get_or l.settled k 0 ≡ bit_xor (get_or l.octets k 0) (owed_next (drop k l.padded));
+  each : (k : ℕ) → k < l.i → get_or l.settled k 0 ≡ bit_xor (get_or l.octets k 0) (owed_next (drop k l.window));
 }
