@@ -14,6 +14,12 @@ const REACH: usize = 136;
 /// The last octets before a block, the block's, and room for zeros behind them.
 const WINDOW: usize = BLOCK + SPAN + REACH;
 
+/// At most so many octets are folded at once in a window that takes less time to clear.
+const SHORT_BLOCK: usize = 1536;
+
+/// A window for a block that is short.
+const SHORT_WINDOW: usize = SHORT_BLOCK + SPAN + REACH;
+
 /// Writes octets over the first of others.
 pub(crate) fn put_front(out: &mut [u8], octets: &[u8])
     requires { length octets.now ≤ length out.old }
@@ -33,8 +39,8 @@ fn with_owed(octet: u8, window: &[u8], at: usize) -> u8
 /// Folds 64 octets of a block away, from a place on.
 #[inline(always)]
 fn fold_piece(window: &mut [u8], block: &[u8], at: usize)
-    requires block { (length block.now ≤ 2048) × (at + 64 ≤ length block.now) }
-    requires window { length window.old ≡ 2474 }
+    requires block { at + 64 ≤ length block.now }
+    requires window { length block.now + 290 ≤ length window.old }
     ensures folds { (first : List ℕ) → Folds first (take at block.now) (take 290 (drop at window.old))
         → Folds first (take (at + 64) block.now) (take 290 (drop (at + 64) window.new)) }
 {
@@ -46,8 +52,7 @@ fn fold_piece(window: &mut [u8], block: &[u8], at: usize)
 
 /// Folds a block away: the octets of the window from the block's length on are then the last that were folded.
 fn fold(window: &mut [u8], block: &[u8])
-    requires block { length block.now ≤ 2048 }
-    requires window { length window.old ≡ 2474 }
+    requires { length block.now + 290 ≤ length window.old }
     ensures { Folds (take 290 window.old) block.now (take 290 (drop (length block.now) window.new)) }
 {
     let pieces = block.len() / 64;
@@ -92,11 +97,35 @@ fn opened(remainder: u32) -> [u8; WINDOW]
     window
 }
 
+/// The same in a window that is short.
+fn opened_short(remainder: u32) -> [u8; SHORT_WINDOW]
+    ensures { (octets : List ℕ) → remainder_with (take 290 result) octets ≡ after_octets remainder octets }
+{
+    let mut window = [0; SHORT_WINDOW];
+    put_front(&mut window, &remainder.to_le_bytes());
+    window
+}
+
+/// The same as `folded`, of octets that are one short block and what is left.
+fn folded_short(remainder: u32, octets: &[u8]) -> [u8; SPAN]
+    requires { (290 ≤ length octets.now) × (length octets.now ≤ 1826) }
+    ensures { after_octets 0 result ≡ after_octets remainder octets.now }
+{
+    let mut window = opened_short(remainder);
+    let (front, back) = octets.split_at(octets.len() - SPAN);
+    fold(&mut window, front);
+    let last = front.len();
+    settled(&mut window[last..last + SPAN + REACH], back)
+}
+
 /// As many octets as the span, whose remainder from 0 is that of `octets` from `remainder`.
 pub(crate) fn folded(remainder: u32, octets: &[u8]) -> [u8; SPAN]
     requires { 290 ≤ length octets.now }
     ensures { after_octets 0 result ≡ after_octets remainder octets.now }
 {
+    if octets.len() <= SHORT_BLOCK + SPAN {
+        return folded_short(remainder, octets);
+    }
     let mut window = opened(remainder);
     let (front, back) = octets.split_at(octets.len() - SPAN);
     let blocks = front.len() / BLOCK;

@@ -12,4 +12,4 @@ loop-i-preserved c = λ first start.
     let octet = c.with_owed-octet.result in
     let next : at + 1 ≡ c.args.at + (c.loop-i.i + 1) = omega arith in
     coe 0 1 (i. Folds first (take (next i) block) (take 290 (drop (next i) (set w (at + 290) octet))))
-    (fold_step first block w at octet (omega (arith, c.requires.block.1)) (omega arith) c.with_owed-octet.type_inv c.with_owed-octet.ensures (c.loop-i.invariant first start))
+    (fold_step first block w at octet (omega (arith, c.requires.block)) (omega arith) c.with_owed-octet.type_inv c.with_owed-octet.ensures (c.loop-i.invariant first start))
