@@ -1,5 +1,5 @@
 -- What the fields of a `Memory` mean, and what they keep.
-use Rattle.std.specs.Prelude.{◌≡◌, ◌≤◌, ℕ, ◌-◌, ◌==◌, if◌then◌else◌, List, [], ◌∷◌, ◌++◌, slice_set, nat_lt, is_none, Bool, length, Option, Some, None, Vec, map, replicate, slice_index_or, unwrap_or}
+use Rattle.std.specs.Prelude.{◌≡◌, ◌≤◌, ℕ, ◌-◌, ◌==◌, if◌then◌else◌, List, [], ◌∷◌, ◌++◌, slice_set, nat_lt, is_none, Bool, length, Option, Some, None, map, replicate, slice_index_or, unwrap_or}
 use Rattle.std.specs.Option.{option_map, option_and_then}
 use Rattle.slab.specs.Slab.{Slab, get}
 use Rattle.iw_octets.specs.declared.stag.Stag.{Stag}
@@ -13,12 +13,9 @@ use Rattle.iw_memory.specs.Table.{Table}
 abbrev pub Slots : Type 0
 Slots = List (Option (List Slot))
 
-abbrev pub as_list : {A : Type 0} → Option (Vec Slot A) → Option (List Slot)
-as_list {A} slots = option_map (λ v. v.items) slots
-
 -- the domains past the last place were not added
-abbrev pub all_places : {A : Type 0} → List (Option (Vec Slot A)) → Slots
-all_places {A} places = map as_list places ++ replicate (256 - length places) None
+abbrev pub all_places : Slots → Slots
+all_places places = places ++ replicate (256 - length places) None
 
 -- the places of no domain
 unfoldable pub no_places : Slots

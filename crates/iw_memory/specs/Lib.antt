@@ -6,5 +6,6 @@ pub mod Laws
 pub mod Held
 pub mod Lending
 pub mod Inside
+pub mod Marked
 pub mod Retiring
 pub mod TableLending

@@ -11,7 +11,9 @@
 //! `add_domain`, `register` and `register_for` take memory.
 #![tactic(auto)]
 
+mod domain_slots;
 mod laws;
+mod marks;
 mod memory;
 mod peer;
 mod refusal;

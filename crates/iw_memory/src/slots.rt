@@ -1,10 +1,11 @@
 ghost use Rattle.std.specs.Prelude.{◌≡◌, ◌<◌, ◌≤◌, length, slice_index_or, slice_set};
 ghost use Rattle.std.specs.Prelude.{Some, None, [], option_copied, is_some, IsTrue, IfOk, OnOk, OnErr};
-ghost use Rattle.std.specs.List.{position_or_len, position};
+ghost use Rattle.std.specs.List.{position_or_len};
 ghost use Rattle.std.specs.Option.{option_map};
 ghost use Rattle.iw_memory.specs.Inside.{no_places, all_places, link_of, slots_in};
 ghost use Rattle.iw_memory.specs.Inside.{free, is_free, with_room_at, SetsSlots};
 
+use crate::domain_slots::DomainSlots;
 use iw_octets::Stag;
 use std::alloc::{AllocError, Allocator, Global};
 use std::marker::Model;
@@ -20,7 +21,7 @@ pub(crate) struct Slot {
 #[derive(Drop)]
 pub(crate) struct Domains<A: Allocator = Global> {
     // By domain number, up to the highest that was added.
-    places: Vec<Option<Vec<Slot, A>>, A>,
+    places: Vec<Option<DomainSlots<A>>, A>,
 }
 
 impl<A: Allocator> Model for Domains<A> {
@@ -60,7 +61,7 @@ impl<A: Allocator> Domains<A> {
     {
         reach(&mut self.places, pd)?;
         let alloc = *self.places.allocator();
-        self.places[pd as usize] = Some(Vec::new(alloc));
+        self.places[pd as usize] = Some(DomainSlots::new(alloc));
         Ok(())
     }
 
@@ -93,6 +94,7 @@ impl<A: Allocator> Domains<A> {
     pub(crate) fn make_room(&mut self, pd: u8, slot: usize) -> Result<u8, AllocError>
         requires added { IsTrue (is_some (slice_index_or self.old pd None)) }
         requires slot { slot ≤ length (slots_in self.old pd) }
+        requires small { slot < 1024 }
         ensures ok { OnOk result (SetsSlots self.old self.new pd (with_room_at (slots_in self.old pd) slot)) }
         ensures key { IfOk result (λ key. key ≡ (slice_index_or (slots_in self.old pd) slot free).key) }
         ensures err { OnErr result (self.new ≡ self.old) }
@@ -100,7 +102,7 @@ impl<A: Allocator> Domains<A> {
         let Some(slots) = &mut self.places[pd as usize] else {
             unreachable!();
         };
-        room_for(slots, slot)
+        slots.room_for(slot)
     }
 
     /// Sets a slot that is there.
@@ -111,12 +113,15 @@ impl<A: Allocator> Domains<A> {
         let Some(slots) = &mut self.places[domain as usize] else {
             unreachable!();
         };
-        slots[slot] = state;
+        slots.set(slot, state);
     }
 }
 
 // Makes the places up to the domain's. No domain is added. An `Err` may leave some of the places.
-fn reach<A: Allocator>(places: &mut Vec<Option<Vec<Slot, A>>, A>, pd: u8) -> Result<(), AllocError>
+fn reach<A: Allocator>(
+    places: &mut Vec<Option<DomainSlots<A>>, A>,
+    pd: u8,
+) -> Result<(), AllocError>
     requires { length places.old.items ≤ 256 }
     ensures ok { OnOk result (pd < length places.new.items) }
     ensures few { length places.new.items ≤ 256 }
@@ -129,13 +134,13 @@ fn reach<A: Allocator>(places: &mut Vec<Option<Vec<Slot, A>>, A>, pd: u8) -> Res
 }
 
 #[inline(always)]
-fn find_in<A: Allocator>(places: &[Option<Vec<Slot, A>>], stag: Stag) -> Option<usize>
+fn find_in<A: Allocator>(places: &[Option<DomainSlots<A>>], stag: Stag) -> Option<usize>
     ensures { result ≡ link_of (all_places places.now) stag }
 {
     let Some(Some(slots)) = places.get(stag.domain() as usize) else {
         return None;
     };
-    let slot = slots.get(stag.slot() as usize)?;
+    let slot = slots.as_slice().get(stag.slot() as usize)?;
     if slot.key == stag.key() {
         slot.at
     } else {
@@ -143,31 +148,11 @@ fn find_in<A: Allocator>(places: &[Option<Vec<Slot, A>>], stag: Stag) -> Option<
     }
 }
 
-fn lowest_free_in<A: Allocator>(places: &[Option<Vec<Slot, A>>], pd: u8) -> Option<usize>
+fn lowest_free_in<A: Allocator>(places: &[Option<DomainSlots<A>>], pd: u8) -> Option<usize>
     ensures { result ≡ option_map (position_or_len is_free) (slice_index_or (all_places places.now) pd None) }
 {
     let Some(Some(slots)) = places.get(pd as usize) else {
         return None;
     };
-    Some(first_free(slots).unwrap_or(slots.len()))
-}
-
-fn first_free(slots: &[Slot]) -> Option<usize>
-    ensures { result ≡ position is_free slots.now }
-{
-    slots.iter().position(|s| s.at.is_none())
-}
-
-// Makes a slot, if it is the one past the last, and tells its key.
-fn room_for<A: Allocator>(slots: &mut Vec<Slot, A>, slot: usize) -> Result<u8, AllocError>
-    requires { slot ≤ length slots.old.items }
-    ensures ok { OnOk result (slots.new.items ≡ with_room_at slots.old.items slot) }
-    ensures key { IfOk result (λ key. key ≡ (slice_index_or slots.old.items slot free).key) }
-    ensures err { OnErr result (slots.new.items ≡ slots.old.items) }
-{
-    if slot < slots.len() {
-        return Ok(slots[slot].key);
-    }
-    slots.push(Slot { key: 0, at: None })?;
-    Ok(0)
+    Some(slots.lowest_free())
 }

@@ -4,4 +4,4 @@ use Rattle.iw_memory.proofs.PlaceLemmas.{all_places-none}
 use Rattle.iw_memory.proofs.slots.Domains.new.Goals as goal
 
 pub returns : goal.returns
-returns g c = ap all_places c.new.ensures.items ∙ all_places-none g.row.A.Denot
+returns g c = ap all_places c.new.ensures.items ∙ all_places-none

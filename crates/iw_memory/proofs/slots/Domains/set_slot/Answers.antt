@@ -10,6 +10,6 @@ returns g c =
     let known = slots_known places d c.index_mut.result.now c.in-Some.slots within c.index_mut.ensures.value c.in-Some.is in
     record {
       after =
-          places-set places d _ (set (slots_in (all_places places) d) c.args.slot c.args.state) within (ap (λ xs. set xs c.args.slot c.args.state) known)
+          places-set places d _ (set (slots_in (all_places places) d) c.args.slot c.args.state) within (c.set.ensures ∙ ap (λ xs. set xs c.args.slot c.args.state) known)
           ∙ ap (λ ds. set ds d (Some (set (slots_in ds d) c.args.slot c.args.state))) c.self.view_is;
     }

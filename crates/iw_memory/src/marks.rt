@@ -1,0 +1,73 @@
+ghost use Rattle.std.specs.Prelude.{◌≡◌, ◌≢◌, ◌==◌, ◌<◌, ◌≤◌, ℕ, if◌then◌else◌, not, position};
+ghost use Rattle.std.specs.Int.{bit_at};
+ghost use Rattle.iw_memory.specs.Marked.{mark, digit};
+
+const WORDS: usize = 16;
+
+/// For each of a domain's 1,024 slots, whether it is free. A slot that was not made yet is free.
+#[derive(Drop)]
+pub(crate) struct Marks {
+    // Bit `i % 64` of word `i / 64` is 1 where slot `i` is free.
+    pub(crate) words: [u64; WORDS],
+}
+
+impl Marks {
+    /// Each slot is free.
+    pub(crate) fn new() -> Marks
+        ensures { (i : ℕ) → i < 1024 → mark result.words i ≡ 1 }
+    {
+        Marks {
+            words: [u64::MAX; WORDS],
+        }
+    }
+
+    /// The lowest free slot, or 1,024 if none is free.
+    pub(crate) fn lowest(&self) -> usize
+        ensures most { result ≤ 1024 }
+        ensures taken { (i : ℕ) → i < result → mark self.now.words i ≡ 0 }
+        ensures free { result < 1024 → mark self.now.words result ≡ 1 }
+    {
+        match first_marked(&self.words) {
+            Some(at) => at * 64 + lowest_bit(self.words[at]),
+            None => WORDS * 64,
+        }
+    }
+
+    /// Keeps whether the slot is free.
+    pub(crate) fn set(&mut self, slot: usize, free: bool)
+        requires { slot < 1024 }
+        ensures is { mark self.new.words slot ≡ digit free }
+        ensures others { (i : ℕ) → i ≢ slot → mark self.new.words i ≡ mark self.old.words i }
+    {
+        let word = self.words[slot / 64];
+        self.words[slot / 64] = with_bit(word, slot % 64, free);
+    }
+}
+
+// The first word that has a free slot.
+fn first_marked(words: &[u64]) -> Option<usize>
+    ensures { result ≡ position (λ word. not (word == 0)) words.now }
+{
+    words.iter().position(|word| *word != 0)
+}
+
+fn lowest_bit(word: u64) -> usize
+    requires { 0 < word }
+    ensures small { result < 64 }
+    ensures set { bit_at word result ≡ 1 }
+    ensures lowest { (i : ℕ) → i < result → bit_at word i ≡ 0 }
+{
+    word.trailing_zeros() as usize
+}
+
+fn with_bit(word: u64, bit: usize, set: bool) -> u64
+    requires { bit < 64 }
+    ensures is { bit_at result bit ≡ digit set }
+    ensures others { (i : ℕ) → i < 64 → i ≢ bit → bit_at result i ≡ bit_at word i }
+{
+    if set {
+        word | 1 << bit
+    } else {
+        word & !(1 << bit)
+    }
+}
