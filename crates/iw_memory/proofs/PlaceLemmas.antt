@@ -2,7 +2,7 @@
 use Rattle.std.proofs.Common.{◌≡◌, ℕ, zero, suc, ◌-◌, ◌<◌, ◌≤◌, List, [], ◌∷◌, ◌++◌, replicate, length, get_or, set, Option, Some, None, true, is_some, IsTrue, inl, inr, refl, sym, ap, ◌∙◌, arith, length-append}
 use Rattle.std.proofs.lemmas.List.{append_assoc, set-append_left, set-get_or, get_or_past, get_or_default, length-set}
 use Rattle.std.proofs.lemmas.Bool.{cases_lt}
-use Rattle.std.specs.Option.{option_map, unwrap_or}
+use Rattle.std.specs.Option.{unwrap_or}
 use Rattle.iw_memory.specs.declared.slots.Slot.{Slot}
 use Rattle.iw_memory.specs.Inside.{Slots, slots_in, no_places, all_places}
 use Rattle.iw_memory.proofs.SlotLemmas.{not_none}
@@ -71,7 +71,3 @@ place_of_slot places d i within = elim (cases_lt d (length places)) [
 pub slots_known : (places : Slots) (d : ℕ) (o : Option (List Slot)) (v : List Slot) → d < length places → o ≡ get_or places d o → o ≡ Some v → v ≡ slots_in (all_places places) d
 slots_known places d o v within read is =
     ap (λ o. unwrap_or o []) (sym is ∙ read ∙ get_or_default places d o None within) ∙ ap (λ (o : Option (List Slot)). unwrap_or o []) (sym (get_or-all_places places d))
-
--- what is asked of a domain's slots
-pub asked-all_places : {X : Type 0} (f : List Slot → X) (places : Slots) (d : ℕ) → option_map f (get_or places d None) ≡ option_map f (get_or (all_places places) d None)
-asked-all_places f places d = ap (option_map f) (sym (get_or-all_places places d))

@@ -12,11 +12,12 @@ use Rattle.iw_memory.specs.declared.slots.Slot.{Slot}
 use Rattle.iw_memory.specs.Region.{Region, is_bound_to, retired_region, made_invalid, IsWithinLimits}
 use Rattle.iw_memory.specs.Held.{Held}
 use Rattle.iw_memory.specs.Part.{retired_slot, own_retired}
-use Rattle.iw_memory.specs.Table.{retired}
+use Rattle.iw_memory.specs.declared.peer.Peer.{Peer}
+use Rattle.iw_memory.specs.Table.{Table, part_of, with_part, retired}
 use Rattle.iw_memory.specs.Retiring.{retired_held, retired_at, retired_all}
-use Rattle.iw_memory.specs.Inside.{Slots, table_of, states_of, state_of, region_in, free, IsHeldFor, IsSound}
+use Rattle.iw_memory.specs.Inside.{Slots, table_of, states_of, state_of, region_in, free, IsHeldFor, IsSound, AreShared}
 use Rattle.iw_memory.proofs.ListLemmas.{map-same, map-set_others}
-use Rattle.iw_memory.proofs.TableLemmas.{get-with_value_same, get-with_value_other, link_unique, same_states}
+use Rattle.iw_memory.proofs.TableLemmas.{get-with_value_same, get-with_value_other, link_unique, same_states, with_part-same}
 
 -- ---- what is stored under each key
 
@@ -144,3 +145,33 @@ table_of-retired {domains} {regions} sound d slots stream is =
     ∙ map-set_others (states_of regions) (states_of (retired_all stream slots regions)) domains d (Some slots) None (λ j l ne. other-states sound d j slots stream is ne)
     ∙ ap (λ ss. set (table_of domains regions) d (Some ss)) (states-retired stream slots regions)
     ∙ ap (λ part. set (table_of domains regions) d (own_retired part stream)) (sym (get_or-map (states_of regions) domains d None ∙ ap (states_of regions) is))
+
+-- ---- where no region is limited to a stream
+
+retired-unbound : (stream : Option ℕ) (r : Region) → r.bound ≡ None → retired_region stream r ≡ r
+retired-unbound stream r none = ap (λ b. cond (is_bound_to b stream) (made_invalid r) r) none
+
+shared-region : {regions : Slab Held} → AreShared regions → (stream at : Option ℕ) → option_map (retired_region stream) (region_in regions at) ≡ region_in regions at
+shared-region shared stream None = refl
+shared-region {regions} shared stream (Some k) = go (get regions k) refl
+  where
+    go : (o : Option Held) → get regions k ≡ o → option_map (retired_region stream) (option_map (λ h. h.region) o) ≡ option_map (λ h. h.region) o
+    go None e = refl
+    go (Some h) e = ap Some (retired-unbound stream h.region (shared.unbound k h e))
+
+shared-slots : {regions : Slab Held} → AreShared regions → (stream : Option ℕ) (slots : List Slot) → map (retired_slot stream) (map (state_of regions) slots) ≡ map (state_of regions) slots
+shared-slots shared stream [] = refl
+shared-slots {regions} shared stream (s ∷ slots) =
+    λ i. record { key = s.key; region = shared-region shared stream s.at i } ∷ shared-slots shared stream slots i
+
+shared-part : {regions : Slab Held} → AreShared regions → (stream : Option ℕ) (o : Option (List Slot)) → own_retired (states_of regions o) stream ≡ states_of regions o
+shared-part shared stream None = refl
+shared-part shared stream (Some slots) = ap Some (shared-slots shared stream slots)
+
+-- where no region is limited to a stream, none is put out of use
+pub retired-shared : (domains : Slots) {regions : Slab Held} {table : Table} → AreShared regions → (peer : Peer) → table_of domains regions ≡ table → table ≡ retired table peer
+retired-shared domains {regions} {table} shared peer view =
+    let part : part_of (table_of domains regions) peer.domain ≡ states_of regions (get_or domains peer.domain None) = get_or-map (states_of regions) domains peer.domain None in
+    let same : own_retired (part_of (table_of domains regions) peer.domain) peer.stream ≡ part_of (table_of domains regions) peer.domain =
+    ap (λ p. own_retired p peer.stream) part ∙ shared-part shared peer.stream (get_or domains peer.domain None) ∙ sym part in
+    sym view ∙ sym (ap (with_part (table_of domains regions) peer.domain) same ∙ with_part-same (table_of domains regions) peer.domain) ∙ ap (λ t. retired t peer) view

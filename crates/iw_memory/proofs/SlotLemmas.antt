@@ -3,7 +3,7 @@ use Rattle.std.proofs.Common.{◌≡◌, ℕ, suc, ◌+◌, ◌<◌, ◌≤◌, 
 use Rattle.iw_memory.proofs.ListLemmas.{get_or-push_default}
 use Rattle.std.proofs.lemmas.List.{get_or_past}
 use Rattle.std.proofs.lemmas.Bool.{cases_lt, lt-ltb, le-ltb}
-use Rattle.std.specs.List.{position_or_len, position}
+use Rattle.std.specs.List.{position_or_len}
 use Rattle.std.specs.Option.{unwrap_or}
 use Rattle.iw_memory.specs.declared.slots.Slot.{Slot}
 use Rattle.iw_memory.specs.Inside.{Slots, slots_in, free, with_room_at}
@@ -41,13 +41,6 @@ with_room-there slots i l = sym (ap (λ b. cond b slots (slots ++ free ∷ [])) 
 
 pub with_room-past : (slots : List Slot) (i : ℕ) → length slots ≤ i → slots ++ free ∷ [] ≡ with_room_at slots i
 with_room-past slots i l = sym (ap (λ b. cond b slots (slots ++ free ∷ [])) (le-ltb i (length slots) l))
-
--- `position`, or the length
-pub position_or_length : {X : Type 0} (p : X → Bool) (xs : List X) → unwrap_or (position p xs) (length xs) ≡ position_or_len p xs
-position_or_length p xs = elim (cases_lt (position_or_len p xs) (length xs)) [
-  | inl found ↦ ap (λ b. unwrap_or (cond b (Some (position_or_len p xs)) None) (length xs)) (lt-ltb _ _ found)
-  | inr past ↦ ap (λ b. unwrap_or (cond b (Some (position_or_len p xs)) None) (length xs)) (le-ltb _ _ past) ∙ (let e : length xs ≡ position_or_len p xs = omega (arith, first_within p xs) in e)
-]
 
 pub link_with_room : (slots : List Slot) (i m : ℕ) → get_or (with_room_at slots i) m free ≡ get_or slots m free
 link_with_room slots i m = elim (nat_lt i (length slots)) as (λ b. get_or (cond b slots (slots ++ free ∷ [])) m free ≡ get_or slots m free) [ true ↦ refl | false ↦ get_or-push_default slots free m ]

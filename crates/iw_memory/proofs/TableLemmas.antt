@@ -1,5 +1,5 @@
 -- What the fields of a memory mean as a table, and how that changes with them.
-use Rattle.std.proofs.Common.{IsTrue, subst, IsSome, IsSomeAnd, IfSome, ◌≤◌, ◌≡◌, ◌≢◌, ℕ, zero, suc, ◌+◌, ◌%◌, ◌-◌, ◌<◌, ◌^◌, ◌==◌, nat_lt, nat_le, not, if◌then◌else◌, Bool, true, false, cond, List, [], ◌∷◌, ◌++◌, map, length, get_or, set, replicate, take, Option, Some, None, is_some, is_none, refl, sym, ap, ◌∙◌, arith, inl, inr, get_or-set_other, get_or-set_same}
+use Rattle.std.proofs.Common.{IsTrue, subst, IsSome, IsSomeAnd, IfSome, ◌≤◌, ◌≡◌, ◌≢◌, ℕ, zero, suc, ◌+◌, ◌%◌, ◌-◌, ◌<◌, ◌^◌, ◌==◌, nat_lt, nat_le, not, if◌then◌else◌, Bool, true, false, cond, List, [], ◌∷◌, ◌++◌, map, length, get_or, set, replicate, take, Option, Some, None, is_some, is_none, ◌||◌, refl, sym, ap, ◌∙◌, arith, inl, inr, get_or-set_other, get_or-set_same}
 use Rattle.std.proofs.Math.ListN.{get_or-map}
 use Rattle.std.proofs.lemmas.List.{set-get_or, get_or_past, take-append-drop, length-set, map-set, length-map, map-append}
 use Rattle.std.proofs.Math.Seq.{take-length}
@@ -20,7 +20,7 @@ use Rattle.iw_memory.specs.Held.{Held}
 use Rattle.iw_memory.specs.Part.{SlotState, unused, under_key, own_slot, free_slot, with_room}
 use Rattle.iw_memory.specs.Table.{Table, empty, part_of, with_part, slots_of, region_at, with_slot, with_region, put, domain_refusal, register_refusal, is_added, added, registered, deregistered, invalidated, octets_at}
 use Rattle.iw_memory.specs.Laws.{HoldsLimits, IsWithin}
-use Rattle.iw_memory.specs.Inside.{Slots, no_places, table_of, states_of, state_of, region_in, slots_in, link_at, link_of, free, IsHeldFor, IsSound, Keeps, SetsSlots, is_free, with_room_at}
+use Rattle.iw_memory.specs.Inside.{Slots, no_places, table_of, states_of, state_of, region_in, slots_in, link_at, link_of, free, IsHeldFor, IsSound, AreShared, Keeps, SetsSlots, is_free, with_room_at}
 use Rattle.iw_memory.proofs.ListLemmas.{map-replicate, map-same, map-set_others, set-set}
 use Rattle.iw_memory.proofs.SlotLemmas.{domain_of_slot, domain_added, not_none, position_or_len-map}
 
@@ -33,9 +33,10 @@ none_in zero d = refl
 none_in (suc n) zero = refl
 none_in (suc n) (suc d) = none_in n d
 
-pub Keeps-empty : (domains : Slots) (regions : Slab Held) (nothing : List ℕ) → domains ≡ no_places → nothing ≡ [] → Keeps domains regions nothing
+pub Keeps-empty : (domains : Slots) (regions : Slab Held) (limited : Bool) (nothing : List ℕ) → domains ≡ no_places → AreShared regions → nothing ≡ [] → Keeps domains regions limited nothing
 unfolding no_places
-Keeps-empty domains regions nothing none empty = record {
+Keeps-empty domains regions limited nothing none shared empty = record {
+  shared = λ _. shared;
   sound = record {
     all_numbers = ap length none;
     no_zero = ap (λ ds. get_or ds 0 None) none;
@@ -552,3 +553,52 @@ HoldsLimits-table_of {domains} {regions} sound = record {
 pub limits_seen : (o : Option (Bor Held)) (h : Held) → option_copied o ≡ Some h → IsWithinLimits h.region.base (length h.region.octets) → IfSome o (λ s. IsWithinLimits s.now.region.base (length s.now.region.octets))
 limits_seen None h is limits = tt
 limits_seen (Some s) h is limits = subst (λ (x : Held). IsWithinLimits x.region.base (length x.region.octets)) (sym (same_Some _ _ is)) limits
+
+-- ---- regions that are limited to no stream
+
+pub AreShared-same_get : {old new : Slab Held} → AreShared old → ((k : ℕ) → get new k ≡ get old k) → AreShared new
+AreShared-same_get shared same = record { unbound = λ k h e. shared.unbound k h (sym (same k) ∙ e) }
+
+pub AreShared-removed : {old new : Slab Held} {k : ℕ} → AreShared old → Updates old new k None → AreShared new
+AreShared-removed {old} {new} {k} shared updates = record {
+  unbound = λ j h e. elim (eqb_tells j k) [
+    | inl same ↦ absurd (none-some h (sym updates.changed ∙ ap (get new) (sym same.1) ∙ e))
+    | inr other ↦ shared.unbound j h (sym (updates.others j other.1) ∙ e)
+  ];
+}
+
+pub AreShared-stored : {old new : Slab Held} {k : ℕ} {stored : Held} → AreShared old → Updates old new k (Some stored) → stored.region.bound ≡ None → AreShared new
+AreShared-stored {old} {new} {k} {stored} shared updates unbound = record {
+  unbound = λ j h e. elim (eqb_tells j k) [
+    | inl same ↦ ap (λ (x : Held). x.region.bound) (sym (same_Some _ _ (sym updates.changed ∙ ap (get new) (sym same.1) ∙ e))) ∙ unbound
+    | inr other ↦ shared.unbound j h (sym (updates.others j other.1) ∙ e)
+  ];
+}
+
+pub AreShared-with_value : {regions : Slab Held} → AreShared regions → (k : ℕ) (h new : Held) → get regions k ≡ Some h → new.region.bound ≡ h.region.bound → AreShared (with_value regions k new)
+AreShared-with_value {regions} shared k h new held bound = record {
+  unbound = λ j x e. elim (eqb_tells j k) [
+    | inl same ↦
+        ap (λ (x : Held). x.region.bound) (sym (same_Some _ _ (sym (get-with_value_same regions k h new held) ∙ ap (get (with_value regions k new)) (sym same.1) ∙ e)))
+        ∙ bound ∙ shared.unbound k h held
+    | inr other ↦ shared.unbound j x (sym (get-with_value_other regions k j new other.1) ∙ e)
+  ];
+}
+
+either : (a b : Bool) → (a || b) ≡ false → (a ≡ false) × (b ≡ false)
+either false false e = (refl, refl)
+either false true e = cc
+either true b e = cc
+
+unlimited : (bound : Option ℕ) → is_some bound ≡ false → bound ≡ None
+unlimited None e = refl
+unlimited (Some stream) e = cc
+
+-- one more region, and whether any is limited now
+pub AreShared-limited : {old middle new : Slab Held} {k : ℕ} {stored : Held} {limited now : Bool} → (limited ≡ false → AreShared old) → ((j : ℕ) → get middle j ≡ get old j) → Updates middle new k (Some stored) → now ≡ (limited || is_some stored.region.bound) → now ≡ false → AreShared new
+AreShared-limited {old} {middle} {new} {k} {stored} {limited} shared same updates is none =
+    let both = either limited (is_some stored.region.bound) (sym is ∙ none) in
+    AreShared-stored (AreShared-same_get (shared both.0) same) updates (unlimited stored.region.bound both.1)
+
+pub AreShared-empty : (regions : Slab Held) → regions.slots ≡ [] → AreShared regions
+AreShared-empty regions none = record { unbound = λ k h e. absurd (none-some h (sym (ap (λ (slots : List (Option Held)). get_or slots k None) none) ∙ e)) }

@@ -1,5 +1,5 @@
 -- What the fields of a `Memory` mean, and what they keep.
-use Rattle.std.specs.Prelude.{◌≡◌, ◌≤◌, ℕ, ◌-◌, ◌==◌, if◌then◌else◌, List, [], ◌∷◌, ◌++◌, slice_set, nat_lt, is_none, Bool, length, Option, Some, None, map, replicate, slice_index_or, unwrap_or}
+use Rattle.std.specs.Prelude.{◌≡◌, ◌≤◌, ℕ, ◌-◌, ◌==◌, if◌then◌else◌, List, [], ◌∷◌, ◌++◌, slice_set, nat_lt, is_none, Bool, false, length, Option, Some, None, map, replicate, slice_index_or, unwrap_or}
 use Rattle.std.specs.Option.{option_map, option_and_then}
 use Rattle.slab.specs.Slab.{Slab, get}
 use Rattle.iw_octets.specs.declared.stag.Stag.{Stag}
@@ -60,8 +60,13 @@ pub record IsSound (domains : Slots) (regions : Slab Held) : Type 0 where
   pub linked : (d i k : ℕ) → link_at domains d i ≡ Some k → IsHeldFor regions k d i
   pub few : (d : ℕ) → length (slots_in domains d) ≤ 1024
 
-pub record Keeps (domains : Slots) (regions : Slab Held) (nothing : List ℕ) : Type 0 where
+-- no region is limited to a stream
+pub record AreShared (regions : Slab Held) : Type 0 where
+  pub unbound : (k : ℕ) (h : Held) → get regions k ≡ Some h → h.region.bound ≡ None
+
+pub record Keeps (domains : Slots) (regions : Slab Held) (limited : Bool) (nothing : List ℕ) : Type 0 where
   pub sound : IsSound domains regions
+  pub shared : limited ≡ false → AreShared regions
   pub no_octets : length nothing ≡ 0
 
 abbrev pub is_free : Slot → Bool

@@ -10,7 +10,7 @@ use crate::refusal::{
     Deny, DomainRefusal, InvalidateDeny, NoRegion, RegisterRefusal, StoreRefusal,
 };
 use crate::region::{Facts, Stored};
-use crate::retiring::retire_all;
+use crate::retiring::{is_limited, retire_all};
 use crate::rights::{Right, Rights};
 use crate::slots::{Domains, Slot};
 use iw_octets::{MAX_OCTETS, Stag};
@@ -27,6 +27,8 @@ const MAX_SLOTS: usize = 1024;
 pub struct Memory<A: Allocator = Global> {
     domains: Domains<A>,
     regions: Slab<Stored<A>, A>,
+    // Whether a region was ever limited to a stream.
+    limited: bool,
     // Empty: the part of no octets.
     nothing: Vec<u8, A>,
 }
@@ -40,7 +42,7 @@ impl<A: Allocator> Model for Memory<A> {
 
     ghost view = { λ m. table_of m.domains m.regions };
 
-    ghost invariant = { λ m. Keeps m.domains m.regions m.nothing.items };
+    ghost invariant = { λ m. Keeps m.domains m.regions m.limited m.nothing.items };
 }
 
 impl<A: Allocator> Memory<A> {
@@ -62,6 +64,7 @@ impl<A: Allocator> Memory<A> {
         Memory {
             domains: Domains::new(alloc),
             regions: Slab::new(alloc),
+            limited: false,
             nothing: Vec::new(alloc),
         }
     }
@@ -231,6 +234,7 @@ impl<A: Allocator> Memory<A> {
             valid: true,
         });
         self.domains.set_slot(pd, slot, Slot { key, at: Some(at) });
+        self.limited = is_limited(self.limited, bound);
         Ok(key)
     }
 
@@ -274,6 +278,10 @@ impl<A: Allocator> Memory<A> {
     pub fn retire(&mut self, peer: Peer)
         ensures { self.new ≡ retired self.old peer }
     {
+        // What is limited to no stream stays as it is.
+        if !self.limited {
+            return;
+        }
         let Some(slots) = self.domains.slots(peer.domain) else {
             return;
         };

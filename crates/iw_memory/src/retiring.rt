@@ -1,4 +1,4 @@
-ghost use Rattle.std.specs.Prelude.{◌≡◌};
+ghost use Rattle.std.specs.Prelude.{◌≡◌, ◌||◌, is_some};
 ghost use Rattle.iw_memory.specs.Retiring.{retired_all, retired_at};
 
 use crate::region::Stored;
@@ -28,4 +28,12 @@ fn retire_at<A: Allocator>(regions: &mut Slab<Stored<A>, A>, at: usize, stream: 
     if let Some(stored) = regions.get_mut(at) {
         stored.retire(stream);
     }
+}
+
+/// Whether a region was limited to a stream, with one more that is limited so.
+#[inline(always)]
+pub(crate) fn is_limited(limited: bool, bound: Option<u32>) -> bool
+    ensures { result ≡ limited || is_some bound }
+{
+    limited || bound.is_some()
 }

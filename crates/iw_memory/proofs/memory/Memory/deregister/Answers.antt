@@ -2,12 +2,13 @@
 use Rattle.std.proofs.Common.{Some, sym, ap, ◌∙◌}
 use Rattle.std.specs.Option.{option_map}
 use Rattle.iw_memory.specs.Region.{Region}
-use Rattle.iw_memory.proofs.TableLemmas.{region_at-none, stored_at, slot_within, deregistered-none, octets-held, table_of-taken, IsSound-taken}
+use Rattle.iw_memory.proofs.TableLemmas.{region_at-none, stored_at, slot_within, deregistered-none, octets-held, table_of-taken, IsSound-taken, AreShared-removed}
 use Rattle.iw_memory.proofs.memory.Memory.deregister.Goals as goal
 
 pub invariant_of-self : goal.invariant_of-self
 invariant_of-self g c = record {
   sound = IsSound-taken c.self.invariant.sound c.args.stag c.in-Some.at _ (sym c.find.ensures ∙ c.in-Some.is) c.remove-stored.ensures.updates (rw (c.domain.ensures, c.slot.ensures, c.key.ensures) at c.set_slot.ensures);
+  shared = λ none. AreShared-removed (c.self.invariant.shared none) c.remove-stored.ensures.updates;
   no_octets = c.self.invariant.no_octets;
 }
 

@@ -8,12 +8,13 @@ use Rattle.iw_memory.specs.Region.{new_region}
 use Rattle.iw_memory.specs.Table.{slots_of, is_added, registered}
 use Rattle.iw_memory.specs.Part.{free_slot}
 use Rattle.iw_memory.proofs.SlotLemmas.{domain_added, first_within, link_with_room, within_room, small_room}
-use Rattle.iw_memory.proofs.TableLemmas.{IsSound-same_get, IsSound-same_links, IsSound-set_slot, free_slot-table_of, is_added-table_of, slots_in-sets, table_of-same_get, table_of-registered, same_after_insert}
+use Rattle.iw_memory.proofs.TableLemmas.{IsSound-same_get, IsSound-same_links, IsSound-set_slot, free_slot-table_of, is_added-table_of, slots_in-sets, table_of-same_get, table_of-registered, same_after_insert, AreShared-same_get, AreShared-limited}
 use Rattle.iw_memory.proofs.memory.Memory.hold.Goals as goal
 
 pub invariant_of-self : goal.invariant_of-self
 invariant_of-self g c = record {
   sound = IsSound-same_get c.self.invariant.sound (λ k. ap (λ s. get s k) c.reserve.ensures.rest_kept);
+  shared = λ none. AreShared-same_get (c.self.invariant.shared none) (λ k. ap (λ s. get s k) c.reserve.ensures.rest_kept);
   no_octets = c.self.invariant.no_octets;
 }
 
@@ -26,6 +27,7 @@ make_room-requires-clause-slot g c =
 pub invariant_of-self-in-Err : goal.invariant_of-self-in-Err
 invariant_of-self-in-Err g c = record {
   sound = subst (λ (ds : Slots). IsSound ds c.reserve.new.self) (sym c.in-Err.ensures.err) (IsSound-same_get c.self.invariant.sound (λ k. ap (λ s. get s k) c.reserve.ensures.rest_kept));
+  shared = λ none. AreShared-same_get (c.self.invariant.shared none) (λ k. ap (λ s. get s k) c.reserve.ensures.rest_kept);
   no_octets = c.self.invariant.no_octets;
 }
 
@@ -53,6 +55,7 @@ invariant_of-self-2 g c =
     let middle : IsSound c.make_room.new.self c.reserve.new.self = IsSound-same_links (IsSound-same_get c.self.invariant.sound (λ k. ap (λ s. get s k) c.reserve.ensures.rest_kept)) pd (with_room_at (slots_in ds pd) c.args.slot) there c.in-Ok.ensures.ok (small_room (slots_in ds pd) c.args.slot small c.requires.small (c.self.invariant.sound.few pd)) (link_with_room (slots_in ds pd) c.args.slot) in
     record {
       sound = IsSound-set_slot middle pd c.args.slot _ c.set_slot.ensures within (same_after_insert middle c.insert_reserved-at.result pd c.args.slot _ c.insert_reserved-at.ensures.was_vacant c.insert_reserved-at.ensures.updates) (λ k e. record { region = _; held = ap (get c.insert_reserved-at.new.self) (sym (same_Some _ _ e)) ∙ c.insert_reserved-at.ensures.updates.changed; limits = c.requires.limits });
+      shared = λ none. AreShared-limited c.self.invariant.shared (λ k. ap (λ s. get s k) c.reserve.ensures.rest_kept) c.insert_reserved-at.ensures.updates c.is_limited-self-inside.ensures none;
       no_octets = c.self.invariant.no_octets;
     }
 

@@ -1,8 +1,9 @@
 -- The one stored region that the STag names is changed.
 use Rattle.std.proofs.Common.{is_some, refl, sym, ap, ◌∙◌}
 use Rattle.iw_memory.specs.Region.{made_invalid}
+use Rattle.iw_memory.specs.Held.{Held}
 use Rattle.iw_memory.specs.Table.{region_at}
-use Rattle.iw_memory.proofs.TableLemmas.{region_at-none, region_at-held, with_region-none, held_at, table_of-invalid, IsSound-validity}
+use Rattle.iw_memory.proofs.TableLemmas.{region_at-none, region_at-held, with_region-none, held_at, table_of-invalid, IsSound-validity, AreShared-with_value}
 use Rattle.iw_memory.proofs.memory.Memory.invalidate.Goals as goal
 
 pub index_mut-stored-requires : goal.index_mut-stored-requires
@@ -12,6 +13,7 @@ index_mut-stored-requires g c =
 pub invariant_of-self : goal.invariant_of-self
 invariant_of-self g c = record {
   sound = IsSound-validity c.self.invariant.sound c.in-Some.at c.index_mut-stored.result.now _ _ c.index_mut-stored.ensures.value c.stored.view_is;
+  shared = λ none. AreShared-with_value (c.self.invariant.shared none) c.in-Some.at c.index_mut-stored.result.now _ c.index_mut-stored.ensures.value (ap (λ (x : Held). x.region.bound) c.stored.view_is);
   no_octets = c.self.invariant.no_octets;
 }
 

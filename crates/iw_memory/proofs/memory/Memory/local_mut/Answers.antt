@@ -2,12 +2,13 @@
 use Rattle.std.proofs.Common.{Some, refl, sym, ap, ◌∙◌}
 use Rattle.iw_memory.specs.Region.{overlay}
 use Rattle.iw_memory.proofs.ListLemmas.{length-overlay}
-use Rattle.iw_memory.proofs.TableLemmas.{found_where, stored_at, octets-held, changed-held, IsSound-with_value}
+use Rattle.iw_memory.proofs.TableLemmas.{found_where, stored_at, octets-held, changed-held, IsSound-with_value, AreShared-with_value}
 use Rattle.iw_memory.proofs.memory.Memory.local_mut.Goals as goal
 
 pub invariant_of-self-lent : goal.invariant_of-self-lent
 invariant_of-self-lent g c w = record {
   sound = IsSound-with_value c.self.invariant.sound c.unwrap-key.result c.index_mut.result.now _ c.index_mut.ensures.value refl refl refl (length-overlay c.index_mut.result.now.region.octets 0 w);
+  shared = λ none. AreShared-with_value (c.self.invariant.shared none) c.unwrap-key.result c.index_mut.result.now _ c.index_mut.ensures.value refl;
   no_octets = c.self.invariant.no_octets;
 }
 

@@ -3,12 +3,13 @@ use Rattle.std.proofs.Common.{◌-◌, Option, IsSomeAnd, refl, sym, ap, subst, 
 use Rattle.iw_memory.specs.Region.{Region, Spans, region_with}
 use Rattle.iw_memory.specs.Table.{region_at}
 use Rattle.iw_memory.proofs.ListLemmas.{length-overlay}
-use Rattle.iw_memory.proofs.TableLemmas.{found_where, some_within, stored_at, region_at-held, part-held, changed-held, IsSound-with_value}
+use Rattle.iw_memory.proofs.TableLemmas.{found_where, some_within, stored_at, region_at-held, part-held, changed-held, IsSound-with_value, AreShared-with_value}
 use Rattle.iw_memory.proofs.memory.Memory.octets_mut.Goals as goal
 
 pub invariant_of-self-lent : goal.invariant_of-self-lent
 invariant_of-self-lent g c w = record {
   sound = IsSound-with_value c.self.invariant.sound c.unwrap-key.result c.index_mut.result.now _ c.index_mut.ensures.value refl refl refl (length-overlay c.index_mut.result.now.region.octets (c.args.to - c.index_mut.result.now.region.base) w);
+  shared = λ none. AreShared-with_value (c.self.invariant.shared none) c.unwrap-key.result c.index_mut.result.now _ c.index_mut.ensures.value refl;
   no_octets = c.self.invariant.no_octets;
 }
 
