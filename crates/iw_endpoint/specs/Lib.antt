@@ -1,5 +1,6 @@
 pub mod Numbers
 pub mod Inside
+pub mod Last
 pub mod Endpoint
 pub mod Lending
 pub mod Places
