@@ -1,12 +1,10 @@
 -- Text in pieces: what the first separator divides.
-use Rattle.std.proofs.Common.{◌≡◌, ℕ, zero, suc, ◌+◌, ◌-◌, ◌<◌, ◌≤◌, Bool, true, false, cond, not, eqb, ltb, List, [], ◌∷◌, length, get_or, take, drop, Option, Some, None, refl, sym, ap, ◌∙◌, add-one, arith}
-use Rattle.std.specs.Prelude.{MatchOption, position}
-use Rattle.std.specs.List.{prefix_len}
-use Rattle.std.proofs.lemmas.Bool.{ltb-false}
-use Rattle.std.proofs.lemmas.List.{length-drop}
+use Rattle.std.proofs.Common.{◌≡◌, ℕ, zero, suc, ◌+◌, ◌-◌, ◌<◌, ◌≤◌, inl, inr, Bool, true, false, cond, eqb, List, [], ◌∷◌, length, get_or, take, drop, Option, Some, None, refl, sym, ap, ◌∙◌, add-one, arith}
+use Rattle.std.specs.Prelude.{MatchOption}
+use Rattle.std.proofs.lemmas.Bool.{cases_lt}
+use Rattle.std.proofs.lemmas.List.{length-drop, get_or-drop, take_rest}
 use Rattle.std.proofs.Math.Seq.{take-length}
-use Rattle.std.proofs.lemmas.List.Sums.{prefix_len_passes}
-use Rattle.std.proofs.lemmas.List.Quantifiers.{position-Some}
+use Rattle.memchr.specs.Find.{IsFirstByte, Nowhere, Passes, is_byte}
 use Rattle.iw_schedules.specs.Pieces.{split_at_first, onto_first, pieces, pieces_left}
 
 -- the pieces of a text are what stands before its first separator and the pieces of what stands behind it
@@ -38,23 +36,58 @@ split_at_none separator [] none = refl
 split_at_none separator (x ∷ xs) none =
     rw (none 0 (omega arith), split_at_none separator xs (λ k below. none (suc k) (omega arith))) refl
 
-no_some : {X : Type 0} (b : Bool) (x : X) → None ≡ cond b (Some x) None → b ≡ false
-no_some true x e = absurd cc
-no_some false x e = refl
+no_byte : (b : Bool) → ¬ (b ≡ true) → b ≡ false
+no_byte true never = absurd (never refl)
+no_byte false never = refl
 
-was_false : (b : Bool) → not b ≡ true → b ≡ false
-was_false true e = absurd cc
-was_false false e = refl
-
-pub split_at_position : (separator : ℕ) (xs : List ℕ) (at : Option ℕ) → at ≡ position (λ x. eqb x separator) xs
+-- what the first separator divides
+pub split_at_byte : (separator : ℕ) (xs : List ℕ) (at : Option ℕ) → IsFirstByte (is_byte separator) xs at
     → MatchOption at (split_at_first separator xs ≡ (xs, None)) (λ i. split_at_first separator xs ≡ (take i xs, Some (drop (suc i) xs)))
-split_at_position separator xs None e =
-    let len = prefix_len (λ x. not (eqb x separator)) xs in
-    let long : length xs ≤ len = ltb-false len (length xs) (no_some (ltb len (length xs)) len e) in
-    split_at_none separator xs (λ k below. was_false (eqb (get_or xs k 0) separator) (prefix_len_passes (λ x. not (eqb x separator)) xs k 0 (omega arith)))
-split_at_position separator xs (Some i) e =
-    let found = position-Some (λ x. eqb x separator) xs i 0 (sym e) in
-    split_at_index separator xs i found.0 found.1 found.2
+split_at_byte separator xs None nowhere =
+    split_at_none separator xs (λ k below. no_byte (eqb (get_or xs k 0) separator) (nowhere k (omega arith) below))
+split_at_byte separator xs (Some i) first =
+    split_at_index separator xs i first.0.high first.1 (λ k below. no_byte (eqb (get_or xs k 0) separator) (first.0.before k (omega arith) below))
+
+-- what stands at a place of the rest
+in_rest : (separator near : ℕ) (xs : List ℕ) (k : ℕ) → near ≤ k → Passes (is_byte separator) xs k → Passes (is_byte separator) (take (length xs - near) (drop near xs)) (k - near)
+in_rest separator near xs k le passes =
+    let place : near + (k - near) ≡ k = omega arith in
+    let same : get_or (drop near xs) (k - near) 0 ≡ get_or xs k 0 = get_or-drop near xs (k - near) 0 ∙ ap (λ i. get_or xs i 0) place in
+    ap (λ rest. eqb (get_or rest (k - near) 0) separator) (take_rest xs near) ∙ (ap (λ octet. eqb octet separator) same ∙ passes)
+
+length_rest : (xs : List ℕ) (near : ℕ) → length (take (length xs - near) (drop near xs)) ≡ length xs - near
+length_rest xs near = ap (λ rest. length rest) (take_rest xs near) ∙ length-drop near xs
+
+-- no separator stands in the front, and none in the rest
+pub no_more : (separator : ℕ) (xs : List ℕ) (near : ℕ) → Nowhere (Passes (is_byte separator) xs) 0 near
+    → IsFirstByte (is_byte separator) (take (length xs - near) (drop near xs)) None
+    → IsFirstByte (is_byte separator) xs None
+no_more separator xs near front rest k low below passes =
+    elim (cases_lt k near) [
+      | inl before ↦ front k low before passes
+      | inr behind ↦ rest (k - near) (omega arith) (omega (arith, length_rest xs near)) (in_rest separator near xs k behind passes)
+    ]
+
+-- none stands in the front, and one in the rest
+pub first_beyond : (separator : ℕ) (xs : List ℕ) (near beyond : ℕ) → near ≤ length xs → Nowhere (Passes (is_byte separator) xs) 0 near
+    → IsFirstByte (is_byte separator) (take (length xs - near) (drop near xs)) (Some beyond)
+    → IsFirstByte (is_byte separator) xs (Some (near + beyond))
+first_beyond separator xs near beyond fits front rest =
+    let len = length_rest xs near in
+    let high = rest.0.high in
+    let there : get_or (take (length xs - near) (drop near xs)) beyond 0 ≡ get_or xs (near + beyond) 0 =
+    ap (λ ys. get_or ys beyond 0) (take_rest xs near) ∙ get_or-drop near xs beyond 0 in (
+      record {
+        low = omega arith;
+        high = omega (arith, high, len);
+        before = λ k low below passes.
+            elim (cases_lt k near) [
+              | inl before ↦ front k low before passes
+              | inr behind ↦ rest.0.before (k - near) (omega arith) (omega arith) (in_rest separator near xs k behind passes)
+            ];
+      },
+      ap (λ octet. eqb octet separator) (sym there) ∙ rest.1,
+    )
 
 -- all that stands from a place on
 pub rest_of : (xs : List ℕ) (i : ℕ) → take (length xs - (i + 1)) (drop (i + 1) xs) ≡ drop (suc i) xs
