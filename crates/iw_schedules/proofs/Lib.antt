@@ -10,3 +10,4 @@ pub mod ScheduleLaws
 pub mod PieceLaws
 pub mod Alike
 pub mod KnownLaws
+pub mod HexDigits

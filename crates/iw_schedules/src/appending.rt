@@ -8,20 +8,24 @@ ghost use Rattle.iw_schedules.specs.Answers.{numbered, refused, ok_or_refused};
 ghost use Rattle.iw_schedules.specs.Appended.{with_words};
 ghost use Rattle.iw_schedules.specs.Shown.{shown_refusal};
 
+use crate::hexadecimal;
 use crate::refusals::Refusal;
+use itoa::Buffer;
 use iw_octets::Stag;
 use std::alloc::{AllocError, Allocator};
 
 pub(crate) fn word<A: Allocator>(text: &mut String<A>, word: &str) -> Result<(), AllocError>
     ensures { OnOk result (string_bytes text.new ≡ with_words (string_bytes text.old) (word.now ∷ [])) }
 {
-    write!(text, " {word}")
+    text.push_str(" ")?;
+    text.push_str(word)
 }
 
 pub(crate) fn number<A: Allocator>(text: &mut String<A>, number: u64) -> Result<(), AllocError>
     ensures { OnOk result (string_bytes text.new ≡ with_words (string_bytes text.old) (decimal number ∷ [])) }
 {
-    write!(text, " {number}")
+    let mut buffer = Buffer::new();
+    word(text, buffer.format(number))
 }
 
 /// Octets as hexadecimal digits, or `-` for none.
@@ -34,17 +38,15 @@ pub(crate) fn octets<A: Allocator + Copy>(
     if octets.is_empty() {
         return word(text, "-");
     }
-    let alloc = *text.allocator();
-    let digits = hex::encode(alloc, octets)?;
-    word(text, digits.as_str())
+    text.push_str(" ")?;
+    hexadecimal::many(text, octets)
 }
 
 pub(crate) fn stag<A: Allocator + Copy>(text: &mut String<A>, stag: Stag) -> Result<(), AllocError>
     ensures { OnOk result (string_bytes text.new ≡ with_words (string_bytes text.old) (stag_text stag ∷ [])) }
 {
-    let alloc = *text.allocator();
-    let digits = hex::encode(alloc, stag.to_octets())?;
-    word(text, digits.as_str())
+    text.push_str(" ")?;
+    hexadecimal::few(text, &stag.to_octets())
 }
 
 /// An STag, or `-` for none.

@@ -7,6 +7,7 @@
 mod appending;
 mod calls;
 mod fault;
+mod hexadecimal;
 mod kinds;
 mod laws;
 mod letters;
