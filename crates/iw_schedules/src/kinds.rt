@@ -1,6 +1,6 @@
 //! The kinds of words in a schedule, and what each stands for.
 
-ghost use Rattle.std.specs.Prelude.{◌≡◌, ◌+◌, ◌*◌, ◌^◌, ◌<◌, ◌≤◌, true, [], ◌∷◌, IfOk, IfSome, MatchOption};
+ghost use Rattle.std.specs.Prelude.{◌≡◌, ◌+◌, ◌*◌, ◌^◌, ◌<◌, ◌≤◌, true, [], ◌∷◌, length, IfOk, IfSome, MatchOption};
 ghost use Rattle.std.specs.Char.{is_ascii_digit, digit_value};
 ghost use Rattle.std.specs.List.{repeat};
 ghost use Rattle.std.specs.Option.{option_copied};
@@ -9,6 +9,7 @@ ghost use Rattle.iw_schedules.specs.Kinds.{decimal_of, number_word, times_word, 
 ghost use Rattle.iw_schedules.specs.Kinds.{stag_word, hex_word, octets_word, private_word};
 
 use crate::fault::{FaultName, ReadError};
+use crate::hexadecimal;
 use crate::pieces::split_at;
 use bytes::Bytes;
 use hex::FromHexError;
@@ -17,6 +18,9 @@ use std::alloc::{AllocError, Allocator};
 
 /// The most octets that a word stands for.
 pub(crate) const MAX_WORD_OCTETS: u64 = 20_000_000;
+
+// How many digits are read some at a time.
+const MANY_DIGITS: usize = 32;
 
 /// The most events that a line stands for.
 pub(crate) const MAX_TIMES: u64 = 100_000;
@@ -92,12 +96,31 @@ pub(crate) fn stag(word: &[u8]) -> Result<Stag, FaultName>
 fn from_hex<A: Allocator>(alloc: A, word: &[u8]) -> Result<Vec<u8, A>, ReadError>
     ensures { Gives (λ octets. octets.items) result (hex_word word.now) }
 {
+    if word.len() >= MANY_DIGITS {
+        return from_many(alloc, word);
+    }
     let octets = match hex::decode(alloc, word) {
         Ok(octets) => octets,
         Err(FromHexError::OutOfMemory) => return Err(ReadError::NoMemory),
         Err(_) => return Err(ReadError::Fault(FaultName::BadOctets)),
     };
     if octets.is_empty() {
+        return Err(ReadError::Fault(FaultName::BadOctets));
+    }
+    Ok(octets)
+}
+
+// As `from_hex`, for many digits: they are read some at a time.
+#[tactic(auto, unfolding(crate::specs::Kinds::hex_word))]
+fn from_many<A: Allocator>(alloc: A, word: &[u8]) -> Result<Vec<u8, A>, ReadError>
+    requires { MANY_DIGITS ≤ length word.now }
+    ensures { Gives (λ octets. octets.items) result (hex_word word.now) }
+{
+    if word.len() % 2 != 0 {
+        return Err(ReadError::Fault(FaultName::BadOctets));
+    }
+    let mut octets = vec![in alloc; 0; word.len() / 2]?;
+    if !hexadecimal::read(word, octets.as_mut_slice()) {
         return Err(ReadError::Fault(FaultName::BadOctets));
     }
     Ok(octets)
