@@ -11,3 +11,4 @@ pub mod PieceLaws
 pub mod Alike
 pub mod KnownLaws
 pub mod HexDigits
+pub mod LikelyLaws

@@ -16,3 +16,4 @@ pub mod Shown
 pub mod Grammar
 pub mod Laws
 pub mod Known
+pub mod Likely

@@ -1,7 +1,8 @@
 //! The fixed words of schedules and traces: the table from which they are read and printed.
 
 ghost use Rattle.std.specs.Prelude.{◌≡◌};
-ghost use Rattle.iw_schedules.specs.Words.{one_of, end_text, end_word, role_text, role_word, call_text, call_word};
+ghost use Rattle.iw_schedules.specs.Words.{end_text, end_word, role_text, role_word, call_text, call_word};
+ghost use Rattle.iw_schedules.specs.Likely.{likely_word};
 
 use crate::fault::FaultName;
 use iw_events::{End, Role};
@@ -62,6 +63,58 @@ impl CallWord {
         CallWord::Break,
     ];
 
+    // The words at the places that `likely` goes to. `Domain` fills the places at which no word belongs.
+    const PLACES: [CallWord; 48] = [
+        CallWord::Domain,
+        CallWord::Pool,
+        CallWord::Store,
+        CallWord::Domain,
+        CallWord::Domain,
+        CallWord::Domain,
+        CallWord::Unpool,
+        CallWord::Read,
+        CallWord::Share,
+        CallWord::Domain,
+        CallWord::Work,
+        CallWord::First,
+        CallWord::Domain,
+        CallWord::Recv,
+        CallWord::Domain,
+        CallWord::Accept,
+        CallWord::Deregister,
+        CallWord::Domain,
+        CallWord::Domain,
+        CallWord::Open,
+        CallWord::Break,
+        CallWord::Domain,
+        CallWord::Domain,
+        CallWord::Domain,
+        CallWord::Raw,
+        CallWord::OpenShared,
+        CallWord::Domain,
+        CallWord::Domain,
+        CallWord::Invalidate,
+        CallWord::Register,
+        CallWord::Domain,
+        CallWord::Emit,
+        CallWord::Write,
+        CallWord::Domain,
+        CallWord::Domain,
+        CallWord::Domain,
+        CallWord::Reject,
+        CallWord::Domain,
+        CallWord::Domain,
+        CallWord::Domain,
+        CallWord::Domain,
+        CallWord::Domain,
+        CallWord::Mulpdu,
+        CallWord::Deliver,
+        CallWord::Domain,
+        CallWord::Domain,
+        CallWord::Send,
+        CallWord::Domain,
+    ];
+
     pub(crate) fn text(self) -> &'static str
         ensures { result.now ≡ call_text self }
     {
@@ -96,19 +149,19 @@ impl CallWord {
     pub(crate) fn read(word: &[u8]) -> Result<CallWord, FaultName>
         ensures { result ≡ call_word word.now }
     {
-        CallWord::one_of(&CallWord::ALL, word)
-    }
-
-    // The one of these that the word names.
-    fn one_of(all: &[CallWord], word: &[u8]) -> Result<CallWord, FaultName>
-        ensures { result ≡ one_of call_text all.now word.now }
-    {
-        for call in all {
-            if word == call.text().as_bytes() {
-                return Ok(*call);
-            }
+        let call = CallWord::likely(word);
+        if word == call.text().as_bytes() {
+            return Ok(call);
         }
         Err(FaultName::BadWord)
+    }
+
+    // The only word that a text may be: no two words have the same length and third letter.
+    fn likely(word: &[u8]) -> CallWord
+        ensures { result ≡ likely_word word.now }
+    {
+        let third = word.get(2).copied().unwrap_or(0);
+        CallWord::PLACES[(word.len() % 48 + 3 * third as usize) % 48]
     }
 }
 
