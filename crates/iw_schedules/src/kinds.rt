@@ -174,7 +174,7 @@ pub(crate) fn octets<A: Allocator + Copy>(alloc: A, word: &[u8]) -> Result<Bytes
     if word == b"-".as_slice() {
         return Ok(Bytes::new());
     }
-    let (digits, times) = split_at(word, b'*');
+    let (digits, times) = split_at(word, b'*', 3);
     let octets = from_hex(alloc, digits)?;
     let times = count(times)?;
     match times.checked_mul(octets.len() as u64) {

@@ -1,4 +1,4 @@
-ghost use Rattle.std.specs.Prelude.{◌≡◌, ◌+◌, [], ◌∷◌, MatchOption, length};
+ghost use Rattle.std.specs.Prelude.{◌≡◌, ◌+◌, ◌<◌, [], ◌∷◌, MatchOption, IfSome, length};
 ghost use Rattle.std.specs.Option.{option_copied, option_map, unwrap_or};
 ghost use Rattle.memchr.specs.Find.{IsFirstByte, is_byte};
 ghost use Rattle.iw_schedules.specs.Pieces.{split_at_first, pieces};
@@ -6,7 +6,7 @@ ghost use Rattle.iw_schedules.specs.Pieces.{split_at_first, pieces};
 use memchr::memchr;
 use std::marker::Model;
 
-/// How many octets are looked at one by one.
+/// How many octets are looked at one by one where a word begins: most words are short.
 const NEAR: usize = 12;
 
 /// The pieces of a text between separators, from left to right.
@@ -40,41 +40,34 @@ impl<'a> Pieces<'a> {
         ensures { MatchOption result ((self.old ≡ []) × (self.new ≡ [])) (λ piece. self.old ≡ piece.now ∷ self.new) }
     {
         let text = self.left?;
-        let (piece, left) = divided(text, self.separator, find_near(text, self.separator));
+        let (piece, left) = split_at(text, self.separator, NEAR);
         self.left = left;
         Some(piece)
     }
 }
 
-/// The text before the first separator, and the text after it, if there is a separator.
-pub(crate) fn split_at(text: &[u8], separator: u8) -> (&[u8], Option<&[u8]>)
+/// The text before the first separator, and the text after it, if there is a separator. So many octets are looked at one
+/// by one, and then many at once. It is inlined, so that memchr is not, which would have its stack set up for each word.
+#[inline(always)]
+pub(crate) fn split_at(text: &[u8], separator: u8, near: usize) -> (&[u8], Option<&[u8]>)
     ensures front { result.0.now ≡ (split_at_first separator text.now).0 }
     ensures back { option_copied result.1 ≡ (split_at_first separator text.now).1 }
     ensures len { length result.0.now + unwrap_or (option_map (λ beyond. length beyond.now + 1) result.1) 0
         ≡ length text.now }
 {
-    divided(text, separator, memchr(separator, text))
-}
-
-// The same, where the first separator is at this index.
-fn divided(text: &[u8], separator: u8, at: Option<usize>) -> (&[u8], Option<&[u8]>)
-    requires { IsFirstByte (is_byte separator) text.now at }
-    ensures front { result.0.now ≡ (split_at_first separator text.now).0 }
-    ensures back { option_copied result.1 ≡ (split_at_first separator text.now).1 }
-    ensures len { length result.0.now + unwrap_or (option_map (λ beyond. length beyond.now + 1) result.1) 0
-        ≡ length text.now }
-{
-    match at {
+    match find(text, separator, near) {
         None => (text, None),
         Some(at) => (&text[..at], Some(&text[at + 1..])),
     }
 }
 
-// The index of the first separator, which is likely to be near: the first octets are looked at one by one.
-fn find_near(text: &[u8], separator: u8) -> Option<usize>
-    ensures { IsFirstByte (is_byte separator) text.now result }
+// The index of the first separator.
+#[inline(always)]
+fn find(text: &[u8], separator: u8, near: usize) -> Option<usize>
+    ensures at { IsFirstByte (is_byte separator) text.now result }
+    ensures within { IfSome result (λ at. at < length text.now) }
 {
-    let near = text.len().min(NEAR);
+    let near = near.min(text.len());
     for i in 0..near {
         if text[i] == separator {
             return Some(i);

@@ -7,4 +7,4 @@ use Rattle.iw_schedules.proofs.pieces.Pieces.next.Goals as goal
 pub returns : goal.returns
 returns c =
     let separator = c.self.inside.separator in
-    sym c.self.view_is ∙ (ap (λ left. pieces_left separator (option_copied left)) c.in_ok-text.was ∙ (pieces-split separator c.in_ok-text.text.now ∙ rw (c.divided.ensures.front, c.divided.ensures.back) refl))
+    sym c.self.view_is ∙ (ap (λ left. pieces_left separator (option_copied left)) c.in_ok-text.was ∙ (pieces-split separator c.in_ok-text.text.now ∙ rw (c.split_at.ensures.front, c.split_at.ensures.back) refl))
