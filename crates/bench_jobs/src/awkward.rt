@@ -289,6 +289,18 @@ impl Awkward {
         made("close", self.receiver.endpoint.close(number))
     }
 
+    // Takes note of the regions that live at the end.
+    fn look_at_regions(&mut self) -> Result<()> {
+        for _ in 0..REGIONS {
+            let Some(stag) = self.regions.pop() else {
+                break;
+            };
+            let octets = self.receiver.deregister(stag)?;
+            self.digest.add_octets(octets.as_slice());
+        }
+        Ok(())
+    }
+
     fn round(&mut self, plain: u32, framed: u32) -> Result<()> {
         self.small(plain, 2_000)?;
         self.small(framed, 2_000)?;
@@ -307,5 +319,6 @@ pub(crate) fn run(alloc: Global, seed: u32, rounds: u32) -> Result<u64> {
     for _ in 0..rounds {
         awkward.round(plain, framed)?;
     }
+    awkward.look_at_regions()?;
     Ok(awkward.digest.finish())
 }

@@ -12,7 +12,7 @@ use std::alloc::Global;
 use std::collections::VecDeque;
 
 /// How many connections are idle.
-const IDLE: u32 = 400;
+const IDLE: u32 = 4_000;
 
 /// How many others are open at a time.
 const ALIVE: usize = 256;
@@ -214,6 +214,13 @@ impl Server {
         Ok(connection)
     }
 
+    // Takes note of a connection's region, and frees it.
+    fn look(&mut self, connection: Connection) -> Result<()> {
+        let octets = self.server.deregister(Stag::from(connection.stag))?;
+        self.digest.add_octets(octets.as_slice());
+        Ok(())
+    }
+
     // Ends a connection, and forgets it at both ends. A buffer that was not used comes back.
     fn end(&mut self, connection: Connection) -> Result<()> {
         let number = connection.number;
@@ -224,8 +231,17 @@ impl Server {
         self.server_acts(number)?;
         made("close", self.client.endpoint.close(number))?;
         made("close", self.server.endpoint.close(number))?;
-        let octets = self.server.deregister(Stag::from(connection.stag))?;
-        self.digest.add_octets(octets.as_slice());
+        self.look(connection)
+    }
+
+    // Takes note of the regions of the connections that are open yet.
+    fn look_at_rest(&mut self) -> Result<()> {
+        for _ in 0..MOST {
+            match self.open.pop_front() {
+                Some(connection) => self.look(connection)?,
+                None => break,
+            }
+        }
         Ok(())
     }
 
@@ -240,7 +256,7 @@ impl Server {
                 }
             }
         }
-        Ok(())
+        self.look_at_rest()
     }
 }
 

@@ -11,12 +11,14 @@ fn word(octets: &[u8; 8]) -> u64 {
     u64::from_le_bytes(*octets)
 }
 
-// What 64 octets, or fewer, come to.
+// What 64 octets, or fewer, come to: each word counts by its place.
 fn joined(octets: &[u8]) -> u64 {
     let (words, rest) = octets.as_chunks::<8>();
     let mut all = 0u64;
+    let mut weight = 0x9e37_79b9_7f4a_7c15u64;
     for octets in words {
-        all ^= word(octets);
+        all = all.wrapping_add(word(octets).wrapping_mul(weight));
+        weight = weight.wrapping_add(0x5851_f42d_4c95_7f2e);
     }
     for octet in rest {
         all = all.rotate_left(8) ^ u64::from(*octet);
