@@ -3,7 +3,7 @@ ghost use Rattle.iw_octets.specs.Crc.{after_octets};
 ghost use Rattle.iw_octets.specs.Fold.{owed_next, remainder_with, Folds};
 
 /// An octet that is folded away is last added to the octet that stands so far past it.
-pub(crate) const SPAN: usize = 290;
+const SPAN: usize = 290;
 
 /// So many octets are folded at a time.
 const BLOCK: usize = 2048;

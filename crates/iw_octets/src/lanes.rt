@@ -8,34 +8,42 @@ ghost use Rattle.iw_octets.specs.Lanes.{moved};
 use crate::fold::put_front;
 use std::simd::prelude::*;
 
+/// What an octet's lower half, 0 to 15, is 16 octets further on.
 const LOW_16: [u8; 16] = [
     0, 229, 126, 155, 105, 140, 23, 242, 149, 112, 235, 14, 252, 25, 130, 103,
 ];
 
+/// What its upper half is 16 octets further on.
 const HIGH_16: [u8; 16] = [
     0, 158, 102, 248, 101, 251, 3, 157, 36, 186, 66, 220, 65, 223, 39, 185,
 ];
 
+/// What an octet's lower half, 0 to 15, is 32 octets further on.
 const LOW_32: [u8; 16] = [
     0, 7, 82, 85, 214, 209, 132, 131, 95, 88, 13, 10, 137, 142, 219, 220,
 ];
 
+/// What its upper half is 32 octets further on.
 const HIGH_32: [u8; 16] = [
     0, 226, 65, 163, 168, 74, 233, 11, 137, 107, 200, 42, 33, 195, 96, 130,
 ];
 
+/// What an octet's lower half, 0 to 15, is 64 octets further on.
 const LOW_64: [u8; 16] = [
     0, 93, 93, 0, 119, 42, 42, 119, 26, 71, 71, 26, 109, 48, 48, 109,
 ];
 
+/// What its upper half is 64 octets further on.
 const HIGH_64: [u8; 16] = [
     0, 211, 230, 53, 159, 76, 121, 170, 153, 74, 127, 172, 6, 213, 224, 51,
 ];
 
+/// What an octet's lower half, 0 to 15, is 96 octets further on.
 const LOW_96: [u8; 16] = [
     0, 225, 200, 41, 23, 246, 223, 62, 252, 29, 52, 213, 235, 10, 35, 194,
 ];
 
+/// What its upper half is 96 octets further on.
 const HIGH_96: [u8; 16] = [
     0, 242, 0, 242, 60, 206, 60, 206, 150, 100, 150, 100, 170, 88, 170, 88,
 ];
