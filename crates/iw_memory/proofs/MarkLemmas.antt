@@ -9,7 +9,7 @@ use Rattle.std.specs.Int.{bit_at}
 use Rattle.std.specs.List.{position_or_len}
 use Rattle.iw_memory.specs.declared.slots.Slot.{Slot}
 use Rattle.iw_memory.specs.Inside.{free, is_free}
-use Rattle.iw_memory.specs.Marked.{mark, digit, AreMarked}
+use Rattle.iw_memory.specs.Marked.{mark, bit, AreMarked}
 
 pub mark-full : (i : ℕ) → i < 1024 → mark (replicate 16 18446744073709551615) i ≡ 1
 mark-full i small =
@@ -55,11 +55,11 @@ taken_before words at low zeros small lowest i l = elim (cases_lt (i / 64) at) [
       ap (λ k. bit_at (get_or words k 0) (i % 64)) here ∙ lowest (i % 64) (omega (arith, here))
 ]
 
-not_free : (b : Bool) → digit b ≡ 0 → b ≡ false
+not_free : (b : Bool) → bit b ≡ 0 → b ≡ false
 not_free true e = absurd (omega arith)
 not_free false e = refl
 
-is_one : (b : Bool) → digit b ≡ 1 → b ≡ true
+is_one : (b : Bool) → bit b ≡ 1 → b ≡ true
 is_one true e = refl
 is_one false e = absurd (omega arith)
 

@@ -1,6 +1,6 @@
 ghost use Rattle.std.specs.Prelude.{◌≡◌, ◌≢◌, ◌==◌, ◌<◌, ◌≤◌, ℕ, if◌then◌else◌, not, position};
 ghost use Rattle.std.specs.Int.{bit_at};
-ghost use Rattle.iw_memory.specs.Marked.{mark, digit};
+ghost use Rattle.iw_memory.specs.Marked.{mark, bit};
 
 const WORDS: usize = 16;
 
@@ -36,7 +36,7 @@ impl Marks {
     /// Keeps whether the slot is free.
     pub(crate) fn set(&mut self, slot: usize, free: bool)
         requires { slot < 1024 }
-        ensures is { mark self.new.words slot ≡ digit free }
+        ensures is { mark self.new.words slot ≡ bit free }
         ensures others { (i : ℕ) → i ≢ slot → mark self.new.words i ≡ mark self.old.words i }
     {
         let word = self.words[slot / 64];
@@ -60,14 +60,14 @@ fn lowest_bit(word: u64) -> usize
     word.trailing_zeros() as usize
 }
 
-fn with_bit(word: u64, bit: usize, set: bool) -> u64
-    requires { bit < 64 }
-    ensures is { bit_at result bit ≡ digit set }
-    ensures others { (i : ℕ) → i < 64 → i ≢ bit → bit_at result i ≡ bit_at word i }
+fn with_bit(word: u64, place: usize, set: bool) -> u64
+    requires { place < 64 }
+    ensures is { bit_at result place ≡ bit set }
+    ensures others { (i : ℕ) → i < 64 → i ≢ place → bit_at result i ≡ bit_at word i }
 {
     if set {
-        word | 1 << bit
+        word | 1 << place
     } else {
-        word & !(1 << bit)
+        word & !(1 << place)
     }
 }

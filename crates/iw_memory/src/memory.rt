@@ -274,7 +274,8 @@ impl<A: Allocator> Memory<A> {
     }
 
     /// Ends the use of every region of the peer's domain that is limited to its stream, because the stream was closed.
-    /// They stay registered, and keep their slots. It walks the domain's slots once, at most 1,024, and takes no memory.
+    /// They stay registered, and keep their slots. It takes no memory. It walks the domain's slots once, at most 1,024, or
+    /// none if no region was ever limited to a stream.
     pub fn retire(&mut self, peer: Peer)
         ensures { self.new ≡ retired self.old peer }
     {
