@@ -24,6 +24,7 @@ use crate::closed::Closed;
 use crate::pools::Pools;
 use crate::refusal::{CallRefusal, NoSuchStream, PoolRefusal, ShareRefusal, TakeRefusal};
 use crate::scrap::Scrap;
+use crate::scratch::Scratch;
 use crate::streams::Streams;
 use bytes::Bytes;
 use iw_memory::{
@@ -49,6 +50,8 @@ pub struct Endpoint<A: Allocator = Global> {
     closed: Closed,
     // What is lent for streams that have ended.
     scrap: Scrap<A>,
+    // By way of which octets are read.
+    scratch: Scratch<A>,
 }
 
 impl<A: Allocator> Model for Endpoint<A> {
@@ -94,6 +97,7 @@ impl<A: Allocator> Endpoint<A> {
             streams: Streams::new(alloc),
             closed: Closed::new(),
             scrap: Scrap::new(alloc),
+            scratch: Scratch::new(alloc),
         }
     }
 
@@ -416,6 +420,10 @@ impl<A: Allocator> Endpoint<A> {
     /// unless the stream has ended: such a stream still reads, and drops. The first octet that is read has the sequence number
     /// of [`Endpoint::first_number`], if nothing came before.
     ///
+    /// The first 16,384 octets of a stream may be read by way of 65,536 octets that the endpoint has for all its streams, and
+    /// are copied then. It takes their memory once it has many young streams, does without it where there is none, and gives
+    /// it back when its last stream is closed.
+    ///
     /// `Refused` has the error of the reader, also if the read would block or was interrupted, or one of the kind
     /// `OutOfMemory`. Nothing was read then. An `Err` changes nothing.
     pub fn read_from<R: Read>(
@@ -428,7 +436,7 @@ impl<A: Allocator> Endpoint<A> {
         ensures err { OnErr result ((self.new ≡ self.old) × Keeps (R.remaining from.old) (R.remaining from.new)) }
     {
         match self.streams.get_mut(number) {
-            Some(stream) => match stream.read_from(from) {
+            Some(stream) => match self.scratch.read(stream, from) {
                 Ok(intake) => Ok(intake),
                 Err(error) => Err(CallRefusal::Refused(error)),
             },

@@ -91,6 +91,7 @@ mod laws;
 mod pools;
 mod refusal;
 mod scrap;
+mod scratch;
 mod streams;
 
 pub use endpoint::Endpoint;

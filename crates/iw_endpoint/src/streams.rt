@@ -211,4 +211,8 @@ impl<A: Allocator> Streams<A> {
             self.places.remove(place);
         }
     }
+    /// Whether no stream is left.
+    pub(crate) fn is_empty(&self) -> bool {
+        self.places.is_empty()
+    }
 }

@@ -17,6 +17,7 @@ mod in_place;
 pub mod laws;
 pub mod nearest;
 mod spans;
+mod through;
 
 use buffer::{fits_after, let_go, put, put_after, shorten};
 use spans::{
@@ -25,6 +26,7 @@ use spans::{
 use std::alloc::{AllocError, Allocator, Global};
 use std::collections::VecDeque;
 use std::marker::Model;
+use through::still_stand;
 
 /// How far past the in-order point an octet may lie, in octets.
 pub const WINDOW: u64 = 262_144;
@@ -56,6 +58,9 @@ pub struct Islands<A: Allocator = Global> {
     end: u64,
     /// Octets side by side, 327,680 at most; those at places that didn't come mean nothing. They may reach past `end`.
     octets: Vec<u8, A>,
+    /// How many octets would stand there at least if each read by way of another place had been made in place, as long as
+    /// there is memory for so many.
+    would_stand: usize,
     /// The places that came, the first span from place 0 on.
     spans: VecDeque<Span, A>,
     /// The places whose octets were given up, as far as they may lie past the in-order point.
@@ -90,6 +95,7 @@ impl<A: Allocator> Islands<A> {
             missing: 0,
             end: 0,
             octets: Vec::new(alloc),
+            would_stand: 0,
             spans,
             gone: VecDeque::new(alloc),
         })
@@ -177,6 +183,7 @@ impl<A: Allocator> Islands<A> {
         if is_one_too_many(&self.spans, low, from, to) {
             return Ok(Delivery::Dropped);
         }
+        self.would_stand = still_stand(self.would_stand, self.octets.capacity());
         shorten(&mut self.octets, &mut self.base, self.floor, self.end, to);
         put(
             &mut self.octets,

@@ -9,11 +9,15 @@ use iw_endpoint::{
 };
 use std::alloc::Global;
 use std::io::Read;
+use std::ptr::null_mut;
 use std::test::Fail;
 
 const DOMAIN: u8 = 1;
 
 const STREAM: StreamNumber = 0;
+
+// A stream beside it.
+const OTHER: StreamNumber = 1;
 
 /// What the program has seen of its stream.
 #[derive(Clone, Copy, Debug, PartialEq, Eq)]
@@ -29,6 +33,15 @@ pub(crate) struct Seen {
 pub(crate) struct End {
     pub(crate) endpoint: Endpoint,
     pub(crate) seen: Seen,
+}
+
+fn config() -> Config {
+    Config {
+        markers: true,
+        crc: true,
+        establishment: Establishment::Plain,
+        private: PrivateData::new(),
+    }
 }
 
 impl End {
@@ -49,16 +62,51 @@ impl End {
     }
 
     fn set_up(&mut self, alloc: Global, role: Role) -> Result<(), Fail> {
-        let config = Config {
-            markers: true,
-            crc: true,
-            establishment: Establishment::Plain,
-            private: PrivateData::new(),
-        };
         self.endpoint.add_domain(DOMAIN)?;
-        self.endpoint.open(STREAM, DOMAIN, role, config)?;
+        self.endpoint.open(STREAM, DOMAIN, role, config())?;
         self.endpoint.post_recv(STREAM, vec![in alloc; 0u8; 16]?)?;
         Ok(())
+    }
+
+    /// Opens another stream, and reads one octet at it so many times.
+    pub(crate) fn read_elsewhere(&mut self, times: usize) -> Result<(), Fail> {
+        self.endpoint.open(OTHER, DOMAIN, Role::Preset, config())?;
+        for _ in 0..times {
+            take(&mut self.endpoint, OTHER, &mut [0u8].as_slice())?;
+        }
+        Ok(())
+    }
+
+    /// Reads, and does no step.
+    pub(crate) fn take<S: Read>(&mut self, socket: &mut S) -> Result<Intake, Fail> {
+        Ok(take(&mut self.endpoint, STREAM, socket)?)
+    }
+
+    /// Counts octets as come, and tells whether it did.
+    pub(crate) fn came(&mut self, n: usize) -> Result<bool, Fail> {
+        Ok(self.endpoint.came(STREAM, n)?)
+    }
+
+    /// For how many octets of those that are wanted there is a place; `None` if there is none.
+    pub(crate) fn lend_place(&mut self, want: usize) -> Option<usize> {
+        let mut at = null_mut();
+        self.endpoint.lend_place(STREAM, want, &mut at).ok()
+    }
+
+    /// Delivers octets at a sequence number.
+    pub(crate) fn deliver(&mut self, sequence: u32, octets: &[u8]) -> Result<(), Fail> {
+        self.endpoint.deliver(STREAM, sequence, octets)?;
+        Ok(())
+    }
+
+    /// The place up to which all octets had their turn.
+    pub(crate) fn in_order_point(&self) -> Result<u64, Fail> {
+        Ok(self.endpoint.in_order_point(STREAM)?)
+    }
+
+    /// The octets of a region.
+    pub(crate) fn region(&self, stag: Stag) -> Option<&[u8]> {
+        self.endpoint.local(stag)
     }
 
     /// The longest frames that there can be.
@@ -136,7 +184,8 @@ impl End {
         self.act()
     }
 
-    fn act(&mut self) -> Result<(), Fail> {
+    /// Does all steps.
+    pub(crate) fn act(&mut self) -> Result<(), Fail> {
         for _ in 0..u64::MAX {
             match next(&mut self.endpoint, STREAM)? {
                 Step::Idle => break,

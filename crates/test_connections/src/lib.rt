@@ -8,3 +8,5 @@ mod carried;
 mod end;
 #[cfg(test)]
 mod reads;
+#[cfg(test)]
+mod young;

@@ -1,5 +1,6 @@
 //! Tests of streams without end, over the public interface of `iw_endpoint`: which number each is given, what is answered
-//! once it was closed, which regions are its own, and that a call which is refused memory changes nothing.
+//! once it was closed, which regions are its own, that a call which is refused memory changes nothing, and that a read
+//! needs no memory but its stream's.
 #![tactic(auto)]
 
 #[cfg(test)]
@@ -14,3 +15,5 @@ mod limited;
 mod numbers;
 #[cfg(test)]
 mod refused;
+#[cfg(test)]
+mod young;

@@ -40,6 +40,9 @@ impl<A: Allocator> Endpoint<A> {
         let peer = self.peer_at_rest(number)?;
         self.memory.retire(peer);
         self.streams.remove(number);
+        if self.streams.is_empty() {
+            self.scratch.give_back();
+        }
         self.closed.keep(number, peer.domain);
         Ok(())
     }

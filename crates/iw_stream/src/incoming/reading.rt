@@ -1,7 +1,7 @@
 //! Octets that are read in place: to where they stand past the last that came.
-ghost use Rattle.std.specs.Prelude.{◌≡◌, ◌<◌, ◌≤◌, take, [], IfOk, OnErr};
+ghost use Rattle.std.specs.Prelude.{◌≡◌, ◌<◌, ◌≤◌, length, take, [], IfOk, OnErr};
 ghost use Rattle.std.specs.Io.KnownBytes.{Consumes, IsAtEnd, Keeps};
-ghost use Rattle.iw_ranges.specs.Arrived.{IsReadyFor};
+ghost use Rattle.iw_ranges.specs.Arrived.{IsReadyFor, most_ahead};
 ghost use Rattle.iw_stream.specs.Reading.{Brings, Reads, room_ahead};
 
 use super::Incoming;
@@ -51,6 +51,28 @@ fn read_in_place<A: Allocator, R: Read>(
     Ok(got)
 }
 
+// The same, by way of `scratch`, which has room for `n`.
+fn read_through<A: Allocator, R: Read>(
+    islands: &mut Islands<A>,
+    from: &mut R,
+    n: usize,
+    scratch: &mut [u8],
+) -> io::Result<usize>
+    requires some { 0 < n }
+    requires most { n ≤ most_ahead islands.old.arrived }
+    requires within { n ≤ length scratch.old }
+    ensures few { IfOk result (λ got. got ≤ n) }
+    ensures none { IfOk result (λ got. got ≡ 0 →
+        (islands.new.arrived ≡ islands.old.arrived) × Consumes (R.remaining from.old) (R.remaining from.new) [] × IsAtEnd (R.remaining from.new)) }
+    ensures came { IfOk result (λ got. 0 < got →
+        Brings islands.old.arrived islands.new.arrived (R.remaining from.old) (R.remaining from.new) got) }
+    ensures err { OnErr result ((islands.new.arrived ≡ islands.old.arrived) × Keeps (R.remaining from.old) (R.remaining from.new)) }
+{
+    let _end = islands.end();
+    let (front, _) = scratch.split_at_mut(n);
+    islands.read_through(from, front)
+}
+
 impl<A: Allocator> Incoming<A> {
     ghost use Rattle.iw_stream.specs.Incoming.{IsSameStart};
 
@@ -75,6 +97,37 @@ impl<A: Allocator> Incoming<A> {
         }
         let place = self.islands.end();
         let got = read_in_place(&mut self.islands, from, n)?;
+        if got == 0 {
+            return Ok(Intake::End);
+        }
+        let from = place.saturating_sub(self.locator.base);
+        let to = (place + got as u64).saturating_sub(self.locator.base);
+        self.unsearched.delivered(from, to);
+        Ok(Intake::Came(got))
+    }
+    /// Whether `read_through` is the cheaper way to read.
+    #[inline]
+    pub(crate) fn is_cheaper_through(&self) -> bool {
+        self.islands.is_cheaper_through(self.room().min(MOST_READ))
+    }
+
+    /// The same as `read_from`, by way of `scratch` if it has room for as many octets as are read at most.
+    pub(crate) fn read_through<R: Read>(
+        &mut self,
+        from: &mut R,
+        scratch: &mut [u8],
+    ) -> io::Result<Intake>
+        ensures ok { IfOk result (λ intake. Reads self.old.arrived self.new.arrived (R.remaining from.old) (R.remaining from.new) intake) }
+        ensures err { OnErr result ((self.new.arrived ≡ self.old.arrived) × Keeps (R.remaining from.old) (R.remaining from.new)) }
+        ensures early { self.new.early ≡ self.old.early }
+        ensures same { IsSameStart self.old self.new }
+    {
+        let n = self.room().min(MOST_READ);
+        if n == 0 || scratch.len() < n {
+            return self.read_from(from);
+        }
+        let place = self.islands.end();
+        let got = read_through(&mut self.islands, from, n, scratch)?;
         if got == 0 {
             return Ok(Intake::End);
         }

@@ -71,4 +71,46 @@ impl<A: Allocator> Stream<A> {
             Err(error) => Err(error),
         }
     }
+    /// Whether [`Stream::read_through`] is the cheaper way to read: fewer than 16,384 octets came yet, and a read in place
+    /// would first have zeros written to where they are to stand.
+    #[inline]
+    pub fn is_cheaper_through(&self) -> bool {
+        !self.ending.has_ended() && self.arrived.is_cheaper_through()
+    }
+
+    /// The same as [`Stream::read_from`], by way of `scratch`: the octets are read to there, and are then copied to where
+    /// they are to stand. It asks for the same memory, and does so before it reads, but writes only to as much of it as is
+    /// read. Where `scratch` has less room than as many octets as are read at most, 65,536, it is not used.
+    ///
+    /// What `scratch` holds then means nothing. An `Err` is as that of `read_from`.
+    pub fn read_through<R: Read>(&mut self, from: &mut R, scratch: &mut [u8]) -> io::Result<Intake>
+        ensures ok { IfOk result (λ intake. IsRead self.old self.new (R.remaining from.old) (R.remaining from.new) intake) }
+        ensures err { OnErr result ((self.new ≡ self.old) × Keeps (R.remaining from.old) (R.remaining from.new)) }
+    {
+        if self.ending.has_ended() {
+            return self.read_ended(from);
+        }
+        self.read_running_through(from, scratch)
+    }
+
+    // The same of a stream that runs.
+    fn read_running_through<R: Read>(
+        &mut self,
+        from: &mut R,
+        scratch: &mut [u8],
+    ) -> io::Result<Intake>
+        requires { ended self.old ≡ false }
+        ensures ok { IfOk result (λ intake. IsRead self.old self.new (R.remaining from.old) (R.remaining from.new) intake) }
+        ensures err { OnErr result ((self.new ≡ self.old) × Keeps (R.remaining from.old) (R.remaining from.new)) }
+    {
+        match self.arrived.read_through(from, scratch) {
+            Ok(Intake::Came(got)) => {
+                self.answered = true;
+                Ok(Intake::Came(got))
+            }
+            Ok(Intake::End) => Ok(Intake::End),
+            Ok(Intake::Full) => Ok(Intake::Full),
+            Err(error) => Err(error),
+        }
+    }
 }

@@ -1,0 +1,114 @@
+//! Room for octets that are read by way of it.
+ghost use Rattle.std.specs.Prelude.{◌≡◌, ◌≤◌, vec_len, vec_capacity, IfOk, OnOk, OnErr};
+ghost use Rattle.std.specs.Io.KnownBytes.{Keeps};
+ghost use Rattle.iw_stream.specs.Reading.{IsRead};
+
+use core::mem::replace_with;
+use iw_stream::{Intake, MOST_READ, Stream};
+use std::alloc::{AllocError, Allocator};
+use std::io::{self, Read};
+use std::marker::Model;
+
+/// How many reads that would be cheaper by way of it are made without it. So an endpoint with few streams needs no memory
+/// for it.
+const WITHOUT: u8 = 8;
+
+/// Room for what comes at the reads of young streams ([`Stream::read_through`]); zeros between two reads, unless a reader
+/// wrote more than it told. The memory is taken when it is first needed, and given back when the last stream is closed.
+#[derive(Drop)]
+pub(crate) struct Scratch<A: Allocator> {
+    octets: Vec<u8, A>,
+    // How many reads were made without it.
+    without: u8,
+}
+
+impl<A: Allocator> Model for Scratch<A> {
+    ghost use Rattle.std.specs.Prelude.{ℕ, ◌≤◌, vec_capacity};
+
+    // For how many octets there is memory.
+    ghost Value = { ℕ };
+
+    ghost view = { λ s. vec_capacity s.octets };
+
+    ghost invariant = { λ s. vec_capacity s.octets ≤ 65536 };
+}
+
+// The octets with zeros past them, so that they are `len`. There is room for them. They are passed by value, so that the loop
+// is one clearing of memory.
+fn extended<A: Allocator>(mut octets: Vec<u8, A>, len: usize) -> (Vec<u8, A>, ())
+    requires longer { vec_len octets ≤ len }
+    requires room { len ≤ vec_capacity octets }
+    ensures { vec_capacity result.0 ≡ vec_capacity octets }
+{
+    'zeros: while octets.len() < len {
+        octets.push_reserved(0);
+    }
+    (octets, ())
+}
+
+// Makes 65,536 octets of none or of as many. An `Err` changes nothing.
+fn fill<A: Allocator>(octets: &mut Vec<u8, A>) -> Result<(), AllocError>
+    requires { vec_capacity octets.old ≤ 65536 }
+    ensures memory { vec_capacity octets.new ≤ 65536 }
+    ensures err { OnErr result (vec_capacity octets.new ≡ vec_capacity octets.old) }
+{
+    if octets.len() == MOST_READ {
+        return Ok(());
+    }
+    octets.reserve_exact(MOST_READ - octets.len())?;
+    replace_with(octets, MOST_READ, extended);
+    Ok(())
+}
+
+// Writes zeros over the first `n` octets.
+fn wipe(octets: &mut [u8], n: usize) {
+    let (front, _) = octets.split_at_mut(n.min(octets.len()));
+    front.fill(0);
+}
+
+impl<A: Allocator> Scratch<A> {
+    /// No memory was taken.
+    pub(crate) fn new(alloc: A) -> Scratch<A>
+        ensures { result ≡ 0 }
+    {
+        Scratch {
+            octets: Vec::new(alloc),
+            without: 0,
+        }
+    }
+
+    // Whether there is room for one read, once it was wanted often enough. If there is no memory, there is none.
+    fn is_there(&mut self) -> bool {
+        if self.without < WITHOUT {
+            self.without += 1;
+            return false;
+        }
+        fill(&mut self.octets).is_ok()
+    }
+
+    /// Reads once at a stream ([`Stream::read_from`]), by way of this room where that is the cheaper way.
+    pub(crate) fn read<R: Read>(
+        &mut self,
+        stream: &mut Stream<A>,
+        from: &mut R,
+    ) -> io::Result<Intake>
+        ensures ok { IfOk result (λ intake. IsRead stream.old stream.new (R.remaining from.old) (R.remaining from.new) intake) }
+        ensures err { OnErr result ((stream.new ≡ stream.old) × Keeps (R.remaining from.old) (R.remaining from.new)) }
+    {
+        if !stream.is_cheaper_through() || !self.is_there() {
+            return stream.read_from(from);
+        }
+        let intake = stream.read_through(from, self.octets.as_mut_slice())?;
+        if let Intake::Came(got) = intake {
+            wipe(self.octets.as_mut_slice(), got);
+        }
+        Ok(intake)
+    }
+
+    /// Gives the memory back, and forgets how many reads wanted it.
+    pub(crate) fn give_back(&mut self) {
+        self.octets.clear();
+        self.octets.shrink_to_fit();
+        self.without = 0;
+    }
+}
