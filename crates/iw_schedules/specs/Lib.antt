@@ -16,4 +16,3 @@ pub mod Shown
 pub mod Grammar
 pub mod Laws
 pub mod Known
-pub mod Likely

@@ -2,7 +2,6 @@
 
 ghost use Rattle.std.specs.Prelude.{◌≡◌};
 ghost use Rattle.iw_schedules.specs.Words.{end_text, end_word, role_text, role_word, call_text, call_word};
-ghost use Rattle.iw_schedules.specs.Likely.{likely_word};
 
 use crate::fault::FaultName;
 use iw_events::{End, Role};
@@ -158,7 +157,7 @@ impl CallWord {
 
     // The only word that a text may be: no two words have the same length and third letter.
     fn likely(word: &[u8]) -> CallWord
-        ensures { result ≡ likely_word word.now }
+        ensures { (call : CallWord) → word.now ≡ call_text call → result ≡ call }
     {
         let third = word.get(2).copied().unwrap_or(0);
         CallWord::PLACES[(word.len() % 48 + 3 * third as usize) % 48]
