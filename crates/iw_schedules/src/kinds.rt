@@ -19,7 +19,7 @@ use std::alloc::{AllocError, Allocator};
 /// The most octets that a word stands for.
 pub(crate) const MAX_WORD_OCTETS: u64 = 20_000_000;
 
-// How many digits are read some at a time.
+// From how many digits on they are read some at a time.
 const MANY_DIGITS: usize = 32;
 
 /// The most events that a line stands for.
