@@ -124,7 +124,8 @@ fn read_lines<A: Allocator + Copy>(
     let mut before = 0u64;
     let mut left = text;
     'lines: loop {
-        let (line, rest) = split_at(left, b'\n', 1);
+        // An empty line and a line `#` end within two octets.
+        let (line, rest) = split_at(left, b'\n', 2);
         if let Err(error) = add_line(alloc, line, &mut events) {
             return Err(error.at(before + 1));
         }
