@@ -426,6 +426,7 @@ fn break_link<A: Allocator>(words: &mut Pieces<'_>) -> Result<Calls<Bytes<A>>, R
 }
 
 // The calls that this word and the words after it stand for.
+#[inline(never)]
 fn calls_past<A: Allocator + Copy>(
     alloc: A,
     call: CallWord,

@@ -3,7 +3,7 @@ use Rattle.iw_schedules.specs.declared.words.CallWord.TheVariants.{Domain, Regis
 use Rattle.iw_schedules.proofs.words.CallWord.likely.Goals as goal
 
 -- the third letter
-letter : (c : goal.After-result-1) → c.unwrap_or-third.result ≡ get_or c.args.word.now 2 0
+letter : (c : goal.After-result-2-1) → c.unwrap_or-third.result ≡ get_or c.args.word.now 2 0
 letter c = search rules
 
 pub returns : goal.returns
