@@ -1,5 +1,5 @@
 -- The text of a trace, one entry after the other.
-use Rattle.std.proofs.Common.{◌≡◌, ◌∙◌, refl, ap, sym, ℕ, List, [], ◌∷◌, ◌++◌, append_assoc}
+use Rattle.std.proofs.Common.{◌≡◌, ◌∙◌, ap, sym, ℕ, List, [], ◌∷◌, ◌++◌, append_assoc}
 use Rattle.std.proofs.lemmas.List.{append-nil}
 use Rattle.iw_events.specs.declared.act.Entry.{Entry}
 use Rattle.iw_schedules.specs.Trace.{entry_text, texts_behind}
