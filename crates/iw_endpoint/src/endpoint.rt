@@ -50,7 +50,7 @@ pub struct Endpoint<A: Allocator = Global> {
     closed: Closed,
     // What is lent for streams that have ended.
     scrap: Scrap<A>,
-    // By way of which octets are read.
+    // What young streams are read by way of.
     scratch: Scratch<A>,
 }
 
@@ -421,8 +421,8 @@ impl<A: Allocator> Endpoint<A> {
     /// of [`Endpoint::first_number`], if nothing came before.
     ///
     /// The first 16,384 octets of a stream may be read by way of 65,536 octets that the endpoint has for all its streams, and
-    /// are copied then. It takes their memory once it has many young streams, does without it where there is none, and gives
-    /// it back when its last stream is closed.
+    /// are copied then. It takes their memory once eight streams were read in place, does without it where there is none, and
+    /// gives it back when fewer than eight streams are left.
     ///
     /// `Refused` has the error of the reader, also if the read would block or was interrupted, or one of the kind
     /// `OutOfMemory`. Nothing was read then. An `Err` changes nothing.
@@ -436,7 +436,7 @@ impl<A: Allocator> Endpoint<A> {
         ensures err { OnErr result ((self.new ≡ self.old) × Keeps (R.remaining from.old) (R.remaining from.new)) }
     {
         match self.streams.get_mut(number) {
-            Some(stream) => match self.scratch.read(stream, from) {
+            Some(stream) => match self.scratch.read(number, stream, from) {
                 Ok(intake) => Ok(intake),
                 Err(error) => Err(CallRefusal::Refused(error)),
             },

@@ -1,4 +1,4 @@
-//! Room for octets that are read by way of it.
+//! Octets by way of which streams are read.
 ghost use Rattle.std.specs.Prelude.{◌≡◌, ◌≤◌, vec_len, vec_capacity, IfOk, OnOk, OnErr};
 ghost use Rattle.std.specs.Io.KnownBytes.{Keeps};
 ghost use Rattle.iw_stream.specs.Reading.{IsRead};
@@ -6,20 +6,21 @@ ghost use Rattle.iw_stream.specs.Reading.{IsRead};
 use core::mem::replace_with;
 use iw_stream::{Intake, MOST_READ, Stream};
 use std::alloc::{AllocError, Allocator};
-use std::io::{self, Read};
+use std::io::{self, ErrorKind, Read};
 use std::marker::Model;
 
-/// How many reads that would be cheaper by way of it are made without it. So an endpoint with few streams needs no memory
-/// for it.
-const WITHOUT: u8 = 8;
+/// How many streams are read without it first. So an endpoint with few streams needs no memory for it.
+pub(crate) const FEW_STREAMS: usize = 8;
 
-/// Room for what comes at the reads of young streams ([`Stream::read_through`]); zeros between two reads, unless a reader
-/// wrote more than it told. The memory is taken when it is first needed, and given back when the last stream is closed.
+/// What comes at the reads of young streams is read to here first ([`Stream::read_through`]). All octets are zeros between
+/// two reads, unless a reader wrote more than it told. The memory is taken when it is first needed.
 #[derive(Drop)]
 pub(crate) struct Scratch<A: Allocator> {
     octets: Vec<u8, A>,
-    // How many reads were made without it.
-    without: u8,
+    // How many streams were read without it, each of a higher number than those before.
+    streams: usize,
+    // The number past the highest of them.
+    next: u64,
 }
 
 impl<A: Allocator> Model for Scratch<A> {
@@ -73,42 +74,62 @@ impl<A: Allocator> Scratch<A> {
     {
         Scratch {
             octets: Vec::new(alloc),
-            without: 0,
+            streams: 0,
+            next: 0,
         }
     }
 
-    // Whether there is room for one read, once it was wanted often enough. If there is no memory, there is none.
-    fn is_there(&mut self) -> bool {
-        if self.without < WITHOUT {
-            self.without += 1;
+    // Counts a stream that is read without it, unless one of its number or a higher one was counted.
+    fn count(&mut self, number: u32) {
+        if number as u64 >= self.next {
+            self.next = (number as u64).saturating_add(1);
+            self.streams = self.streams.saturating_add(1);
+        }
+    }
+
+    // Makes it ready for a read, once enough streams were read without it. If there is no memory, it is not.
+    fn make_ready(&mut self, number: u32) -> bool {
+        if self.streams < FEW_STREAMS {
+            self.count(number);
             return false;
         }
         fill(&mut self.octets).is_ok()
     }
 
-    /// Reads once at a stream ([`Stream::read_from`]), by way of this room where that is the cheaper way.
+    /// Reads once at a stream ([`Stream::read_from`]), by way of these octets where that is the cheaper way. If a read by way
+    /// of them is out of memory, theirs is given back.
     pub(crate) fn read<R: Read>(
         &mut self,
+        number: u32,
         stream: &mut Stream<A>,
         from: &mut R,
     ) -> io::Result<Intake>
         ensures ok { IfOk result (λ intake. IsRead stream.old stream.new (R.remaining from.old) (R.remaining from.new) intake) }
         ensures err { OnErr result ((stream.new ≡ stream.old) × Keeps (R.remaining from.old) (R.remaining from.new)) }
     {
-        if !stream.is_cheaper_through() || !self.is_there() {
+        if !stream.is_cheaper_through() || !self.make_ready(number) {
             return stream.read_from(from);
         }
-        let intake = stream.read_through(from, self.octets.as_mut_slice())?;
-        if let Intake::Came(got) = intake {
-            wipe(self.octets.as_mut_slice(), got);
+        match stream.read_through(from, self.octets.as_mut_slice()) {
+            Ok(Intake::Came(got)) => {
+                wipe(self.octets.as_mut_slice(), got);
+                Ok(Intake::Came(got))
+            }
+            Ok(intake) => Ok(intake),
+            Err(error) => {
+                if error.kind() == ErrorKind::OutOfMemory {
+                    self.give_back();
+                }
+                Err(error)
+            }
         }
-        Ok(intake)
     }
 
-    /// Gives the memory back, and forgets how many reads wanted it.
+    /// Gives the memory back, and forgets which streams were read without it.
     pub(crate) fn give_back(&mut self) {
         self.octets.clear();
         self.octets.shrink_to_fit();
-        self.without = 0;
+        self.streams = 0;
+        self.next = 0;
     }
 }

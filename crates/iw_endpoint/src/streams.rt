@@ -211,8 +211,9 @@ impl<A: Allocator> Streams<A> {
             self.places.remove(place);
         }
     }
-    /// Whether no stream is left.
-    pub(crate) fn is_empty(&self) -> bool {
-        self.places.is_empty()
+
+    /// How many streams there are.
+    pub(crate) fn len(&self) -> usize {
+        self.places.len()
     }
 }

@@ -16,9 +16,6 @@ const DOMAIN: u8 = 1;
 
 const STREAM: StreamNumber = 0;
 
-// A stream beside it.
-const OTHER: StreamNumber = 1;
-
 /// What the program has seen of its stream.
 #[derive(Clone, Copy, Debug, PartialEq, Eq)]
 pub(crate) struct Seen {
@@ -68,11 +65,11 @@ impl End {
         Ok(())
     }
 
-    /// Opens another stream, and reads one octet at it so many times.
-    pub(crate) fn read_elsewhere(&mut self, times: usize) -> Result<(), Fail> {
-        self.endpoint.open(OTHER, DOMAIN, Role::Preset, config())?;
-        for _ in 0..times {
-            take(&mut self.endpoint, OTHER, &mut [0u8].as_slice())?;
+    /// Opens so many other streams, and reads one octet at each.
+    pub(crate) fn read_elsewhere(&mut self, streams: u32) -> Result<(), Fail> {
+        for number in 1..=streams {
+            self.endpoint.open(number, DOMAIN, Role::Preset, config())?;
+            take(&mut self.endpoint, number, &mut [0u8].as_slice())?;
         }
         Ok(())
     }

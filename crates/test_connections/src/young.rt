@@ -1,4 +1,4 @@
-//! A stream whose first octets are read by way of its endpoint's room answers as one that is read in place, whatever calls
+//! A stream whose first octets are read by way of its endpoint's scratch answers as one that is read in place, whatever calls
 //! are made by turns: also calls that a program should not make, such as counting octets for which no place was lent.
 
 use crate::end::End;
@@ -6,13 +6,14 @@ use crate::reads::{LENGTH, Written, region};
 use iw_connection::Intake;
 use iw_endpoint::Role;
 use std::alloc::Global;
+use std::io::{self, Read};
 use std::test::Fail;
 use test_support::Halting;
 
-/// After so many reads that would be cheaper by way of it, an endpoint takes room for them.
-const READS: usize = 8;
+/// After reads at so many streams an endpoint reads by way of its scratch.
+const STREAMS: u32 = 8;
 
-/// Octets of one call: few; about what a young stream may read by way of the room; about what one read takes at most.
+/// Octets of one call: few; about what a young stream may read by way of the scratch; about what one read takes at most.
 const SIZES: [usize; 16] = [
     0, 1, 20, 64, 100, 511, 1_460, 2_000, 8_192, 16_383, 16_384, 16_385, 65_500, 65_535, 65_536,
     65_537,
@@ -39,14 +40,62 @@ impl Numbers {
     }
 }
 
-// Answers, in the order of the calls.
+// A reader that notes how often it was called, and for how many octets.
+#[derive(Drop)]
+struct Noting<T> {
+    inner: T,
+    calls: usize,
+    asked: usize,
+}
+
+impl<T: Read> Read for Noting<T> {
+    fn read(&mut self, buf: &mut [u8]) -> io::Result<usize> {
+        self.calls = self.calls.wrapping_add(1);
+        self.asked = buf.len();
+        self.inner.read(buf)
+    }
+}
+
+// What was answered, in the order of the calls.
 #[derive(Drop)]
 struct Answers {
     numbers: Vec<usize>,
-    // How many reads were made: so few that an endpoint that made none before has no room for them yet.
-    reads: usize,
-    // How often octets were counted for which no place was lent.
+    // Whether a place was lent since the last read.
+    is_lent: bool,
+    // How often octets were counted at a stream that ran, and no place was lent for them.
     counted: usize,
+}
+
+// Reads at most so many octets.
+fn read(
+    end: &mut End,
+    rest: &mut &[u8],
+    most: usize,
+    answers: &mut Answers,
+) -> Result<usize, Fail> {
+    let mut reader = Noting {
+        inner: Halting::new(rest, most),
+        calls: 0,
+        asked: 0,
+    };
+    let intake = end.take(&mut reader)?;
+    answers.is_lent = false;
+    answers.numbers.push(reader.calls)?;
+    answers.numbers.push(reader.asked)?;
+    Ok(match intake {
+        Intake::Came(got) => got,
+        Intake::Full => 100_000,
+        Intake::End => 100_001,
+    })
+}
+
+// Counts octets as come.
+fn came(end: &mut End, n: usize, answers: &mut Answers) -> Result<usize, Fail> {
+    let came = end.came(n)?;
+    if came && !answers.is_lent && !end.seen.has_ended {
+        answers.counted += 1;
+    }
+    Ok(came as usize)
 }
 
 // One call, chosen by the numbers.
@@ -58,20 +107,12 @@ fn call(
 ) -> Result<(), Fail> {
     let size = numbers.size();
     let answer = match numbers.next(8) {
-        0..4 if answers.reads < READS => {
-            answers.reads += 1;
-            match end.take(&mut Halting::new(rest, size))? {
-                Intake::Came(got) => got,
-                Intake::Full => 100_000,
-                Intake::End => 100_001,
-            }
+        0..4 => read(end, rest, size, answers)?,
+        4 => came(end, size, answers)?,
+        5 => {
+            answers.is_lent = true;
+            end.lend_place(size).unwrap_or(100_002)
         }
-        4 => {
-            let came = end.came(size)?;
-            answers.counted += came as usize;
-            came as usize
-        }
-        5 => end.lend_place(size).unwrap_or(100_002),
         6 => {
             let sequence = numbers.next(80_000);
             end.deliver(sequence as u32, &[7; 8][..numbers.next(8)])?;
@@ -86,30 +127,29 @@ fn call(
     Ok(())
 }
 
-// Makes the calls of a seed at an end whose endpoint made some reads before.
-fn all_answers(
-    alloc: Global,
-    written: &Written,
-    reads: usize,
-    seed: u32,
-) -> Result<(Answers, End), Fail> {
+// An end at whose endpoint so many other streams were read.
+fn end(alloc: Global, streams: u32) -> Result<End, Fail> {
     let mut end = End::open(alloc, Role::Preset)?;
     end.register(vec![in alloc; 0u8; LENGTH]?)?;
-    end.read_elsewhere(reads)?;
+    end.read_elsewhere(streams)?;
+    Ok(end)
+}
+
+// Makes the calls of a seed.
+fn calls(alloc: Global, end: &mut End, wire: &[u8], seed: u32) -> Result<Answers, Fail> {
     let mut numbers = Numbers { state: seed };
-    let mut rest = written.wire.as_slice();
+    let mut rest = wire;
     let mut answers = Answers {
         numbers: Vec::new(alloc),
-        reads: 0,
+        is_lent: false,
         counted: 0,
     };
     for _ in 0..24 {
-        call(&mut end, &mut numbers, &mut rest, &mut answers)?;
+        call(end, &mut numbers, &mut rest, &mut answers)?;
     }
     end.act()?;
-    answers.numbers.push(end.seen.received as usize)?;
     answers.numbers.push(end.in_order_point()? as usize)?;
-    Ok((answers, end))
+    Ok(answers)
 }
 
 #[test]
@@ -117,13 +157,32 @@ fn young_streams_answer_as_others_do(rt: HostRuntime) -> Result<(), Fail> {
     let written = Written::new(rt.alloc(), false)?;
     let mut counted = 0;
     for seed in 0..300 {
-        let (in_place, one) = all_answers(rt.alloc(), &written, 0, seed)?;
-        let (by_way, other) = all_answers(rt.alloc(), &written, READS, seed)?;
+        let mut one = end(rt.alloc(), 0)?;
+        let in_place = calls(rt.alloc(), &mut one, written.wire.as_slice(), seed)?;
+        let mut other = end(rt.alloc(), STREAMS)?;
+        let by_way = calls(rt.alloc(), &mut other, written.wire.as_slice(), seed)?;
         assert!(rt; in_place.numbers == by_way.numbers);
         assert!(rt; one.seen == other.seen);
         assert!(rt; one.region(region()) == other.region(region()));
-        counted += in_place.counted;
+        counted += by_way.counted;
     }
     assert!(rt; counted > 20);
+    Ok(())
+}
+
+// Whether after a read of `k` octets as many count as come as it made room for, and no more.
+fn counts_as_many(alloc: Global, streams: u32, k: usize) -> Result<bool, Fail> {
+    let mut end = end(alloc, streams)?;
+    end.take(&mut &[0; 64][..k])?;
+    Ok(!end.came(65_537 - k)? && end.came(65_536 - k)?)
+}
+
+#[test]
+fn young_streams_count_as_many_octets_as_others(rt: HostRuntime) -> Result<(), Fail> {
+    for k in [1, 20, 64] {
+        assert!(rt; counts_as_many(rt.alloc(), 0, k)?);
+        assert!(rt; counts_as_many(rt.alloc(), STREAMS - 1, k)?);
+        assert!(rt; counts_as_many(rt.alloc(), STREAMS, k)?);
+    }
     Ok(())
 }

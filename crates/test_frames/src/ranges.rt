@@ -52,6 +52,46 @@ fn octets_are_read_in_place_past_a_gap(rt: HostRuntime) -> Result<(), Fail> {
 }
 
 #[test]
+fn what_a_read_made_room_for_can_stand(rt: HostRuntime) -> Result<(), Fail> {
+    let mut islands = Islands::new(rt.alloc())?;
+    let mut scratch = vec![in rt.alloc(); 0u8; 65_536]?;
+    let got = islands.read_through(&mut "hello".as_bytes(), scratch.as_mut_slice())?;
+    assert_eq!(rt; got, 5);
+    assert_eq!(rt; islands.peek(4), b'o');
+    // A read in place would have left 65,531 octets past these five.
+    islands.even_out(65_532);
+    assert!(rt; !islands.came_in_place(5, 65_532));
+    islands.even_out(65_531);
+    assert!(rt; islands.came_in_place(5, 65_531));
+    assert_eq!(rt; islands.missing(), 65_536);
+    Ok(())
+}
+
+#[test]
+fn nothing_stands_once_the_memory_was_given_back(rt: HostRuntime) -> Result<(), Fail> {
+    let mut islands = Islands::new(rt.alloc())?;
+    let mut octets = vec![in rt.alloc(); 0u8; 131_073]?;
+    islands.read_through(
+        &mut "hello".as_bytes(),
+        &mut octets.as_mut_slice()[..65_536],
+    )?;
+    assert_eq!(rt; islands.add(5, octets.as_slice())?, Delivery::Kept);
+    let end = islands.end();
+    islands.advance(end);
+    assert_eq!(rt; islands.memory(), 0);
+    // There is memory again, for more than stands.
+    assert_eq!(rt;
+        islands.add(end, &octets.as_slice()[..60_000])?,
+        Delivery::Kept
+    );
+    assert_eq!(rt; islands.add(end + 60_000, "a".as_bytes())?, Delivery::Kept);
+    assert!(rt; islands.memory() > 65_536);
+    islands.even_out(5_000);
+    assert!(rt; !islands.came_in_place(end + 60_001, 5_000));
+    Ok(())
+}
+
+#[test]
 fn what_came_is_given_up(rt: HostRuntime) -> Result<(), Fail> {
     let mut islands = Islands::new(rt.alloc())?;
     assert_eq!(rt; islands.add(0, "ab".as_bytes())?, Delivery::Kept);

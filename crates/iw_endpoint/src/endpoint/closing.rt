@@ -4,6 +4,7 @@ ghost use Rattle.iw_stream.specs.Stream.{peer_of};
 
 use super::Endpoint;
 use crate::refusal::{CallRefusal, NoSuchStream, NotAtRest};
+use crate::scratch::FEW_STREAMS;
 use iw_memory::Peer;
 use std::alloc::Allocator;
 
@@ -40,7 +41,7 @@ impl<A: Allocator> Endpoint<A> {
         let peer = self.peer_at_rest(number)?;
         self.memory.retire(peer);
         self.streams.remove(number);
-        if self.streams.is_empty() {
+        if self.streams.len() < FEW_STREAMS {
             self.scratch.give_back();
         }
         self.closed.keep(number, peer.domain);
