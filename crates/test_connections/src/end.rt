@@ -67,7 +67,7 @@ impl End {
 
     /// Opens so many other streams, and reads one octet at each.
     pub(crate) fn read_elsewhere(&mut self, streams: u32) -> Result<(), Fail> {
-        for number in 1..=streams {
+        for number in 1..streams.saturating_add(1) {
             self.endpoint.open(number, DOMAIN, Role::Preset, config())?;
             take(&mut self.endpoint, number, &mut [0u8].as_slice())?;
         }

@@ -26,17 +26,19 @@ struct Numbers {
 }
 
 impl Numbers {
-    fn next(&mut self, below: usize) -> usize {
+    // A number below `end`; 0 if that is 0.
+    fn next(&mut self, end: u32) -> u32 {
         self.state = self
             .state
             .wrapping_mul(1_664_525)
             .wrapping_add(1_013_904_223);
-        (self.state >> 8) as usize % below
+        (self.state >> 8) % end.max(1)
     }
 
     fn size(&mut self) -> usize {
-        let near = SIZES[self.next(SIZES.len())];
-        near.saturating_sub(self.next(3) * self.next(40))
+        let near = SIZES.get(self.next(16) as usize).copied().unwrap_or(0);
+        let less = self.next(3).saturating_mul(self.next(40));
+        near.saturating_sub(less as usize)
     }
 }
 
@@ -93,7 +95,7 @@ fn read(
 fn came(end: &mut End, n: usize, answers: &mut Answers) -> Result<usize, Fail> {
     let came = end.came(n)?;
     if came && !answers.is_lent && !end.seen.has_ended {
-        answers.counted += 1;
+        answers.counted = answers.counted.saturating_add(1);
     }
     Ok(came as usize)
 }
@@ -115,8 +117,12 @@ fn call(
         }
         6 => {
             let sequence = numbers.next(80_000);
-            end.deliver(sequence as u32, &[7; 8][..numbers.next(8)])?;
-            sequence
+            let octets = [7u8; 8];
+            let (front, _) = octets
+                .as_slice()
+                .split_at((numbers.next(8) as usize).min(8));
+            end.deliver(sequence, front)?;
+            sequence as usize
         }
         _ => {
             end.act()?;
@@ -155,7 +161,7 @@ fn calls(alloc: Global, end: &mut End, wire: &[u8], seed: u32) -> Result<Answers
 #[test]
 fn young_streams_answer_as_others_do(rt: HostRuntime) -> Result<(), Fail> {
     let written = Written::new(rt.alloc(), false)?;
-    let mut counted = 0;
+    let mut counted = 0usize;
     for seed in 0..300 {
         let mut one = end(rt.alloc(), 0)?;
         let in_place = calls(rt.alloc(), &mut one, written.wire.as_slice(), seed)?;
@@ -164,7 +170,7 @@ fn young_streams_answer_as_others_do(rt: HostRuntime) -> Result<(), Fail> {
         assert!(rt; in_place.numbers == by_way.numbers);
         assert!(rt; one.seen == other.seen);
         assert!(rt; one.region(region()) == other.region(region()));
-        counted += by_way.counted;
+        counted = counted.saturating_add(by_way.counted);
     }
     assert!(rt; counted > 20);
     Ok(())
@@ -173,8 +179,9 @@ fn young_streams_answer_as_others_do(rt: HostRuntime) -> Result<(), Fail> {
 // Whether after a read of `k` octets as many count as come as it made room for, and no more.
 fn counts_as_many(alloc: Global, streams: u32, k: usize) -> Result<bool, Fail> {
     let mut end = end(alloc, streams)?;
-    end.take(&mut &[0; 64][..k])?;
-    Ok(!end.came(65_537 - k)? && end.came(65_536 - k)?)
+    let octets = [0u8; 64];
+    end.take(&mut Halting::new(&mut octets.as_slice(), k))?;
+    Ok(!end.came(65_537usize.saturating_sub(k))? && end.came(65_536usize.saturating_sub(k))?)
 }
 
 #[test]
