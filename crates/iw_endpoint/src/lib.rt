@@ -93,6 +93,7 @@ mod refusal;
 mod scrap;
 mod scratch;
 mod streams;
+mod zeros;
 
 pub use endpoint::Endpoint;
 pub use iw_memory::{

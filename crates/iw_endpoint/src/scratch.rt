@@ -1,11 +1,11 @@
 //! Octets by way of which streams are read.
-ghost use Rattle.std.specs.Prelude.{◌≡◌, ◌≤◌, vec_len, vec_capacity, IfOk, OnOk, OnErr};
+ghost use Rattle.std.specs.Prelude.{◌≡◌, ◌≤◌, ◌<◌, ℕ, slice_index, vec_capacity, IfOk, OnErr};
 ghost use Rattle.std.specs.Io.KnownBytes.{Keeps};
 ghost use Rattle.iw_stream.specs.Reading.{IsRead};
 
-use core::mem::replace_with;
+use crate::zeros::fill;
 use iw_stream::{Intake, MOST_READ, Stream};
-use std::alloc::{AllocError, Allocator};
+use std::alloc::Allocator;
 use std::io::{self, ErrorKind, Read};
 use std::marker::Model;
 
@@ -34,35 +34,10 @@ impl<A: Allocator> Model for Scratch<A> {
     ghost invariant = { λ s. vec_capacity s.octets ≤ 65536 };
 }
 
-// The octets with zeros past them, so that they are `len`. There is room for them. They are passed by value, so that the loop
-// is one clearing of memory.
-fn extended<A: Allocator>(mut octets: Vec<u8, A>, len: usize) -> (Vec<u8, A>, ())
-    requires longer { vec_len octets ≤ len }
-    requires room { len ≤ vec_capacity octets }
-    ensures { vec_capacity result.0 ≡ vec_capacity octets }
-{
-    'zeros: while octets.len() < len {
-        octets.push_reserved(0);
-    }
-    (octets, ())
-}
-
-// Makes 65,536 octets of none or of as many. An `Err` changes nothing.
-fn fill<A: Allocator>(octets: &mut Vec<u8, A>) -> Result<(), AllocError>
-    requires { vec_capacity octets.old ≤ 65536 }
-    ensures memory { vec_capacity octets.new ≤ 65536 }
-    ensures err { OnErr result (vec_capacity octets.new ≡ vec_capacity octets.old) }
-{
-    if octets.len() == MOST_READ {
-        return Ok(());
-    }
-    octets.reserve_exact(MOST_READ - octets.len())?;
-    replace_with(octets, MOST_READ, extended);
-    Ok(())
-}
-
 // Writes zeros over the first `n` octets.
-fn wipe(octets: &mut [u8], n: usize) {
+fn wipe(octets: &mut [u8], n: usize)
+    ensures { (k : ℕ) → k < n → slice_index octets.new k ≡ 0 }
+{
     let (front, _) = octets.split_at_mut(n.min(octets.len()));
     front.fill(0);
 }
@@ -93,7 +68,7 @@ impl<A: Allocator> Scratch<A> {
             self.count(number);
             return false;
         }
-        fill(&mut self.octets).is_ok()
+        fill(&mut self.octets, MOST_READ).is_ok()
     }
 
     /// Reads once at a stream ([`Stream::read_from`]), by way of these octets where that is the cheaper way. If a read by way
@@ -126,7 +101,9 @@ impl<A: Allocator> Scratch<A> {
     }
 
     /// Gives the memory back, and forgets which streams were read without it.
-    pub(crate) fn give_back(&mut self) {
+    pub(crate) fn give_back(&mut self)
+        ensures { self.new ≡ 0 }
+    {
         self.octets.clear();
         self.octets.shrink_to_fit();
         self.streams = 0;

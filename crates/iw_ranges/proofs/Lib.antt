@@ -12,5 +12,5 @@ pub mod Blocks
 pub mod Left
 pub mod NearPlaces
 pub mod InPlace
-pub mod Aside
+pub mod ReadThrough
 pub mod Empties

@@ -22,11 +22,11 @@ pub(crate) fn still_stand(would_stand: usize, capacity: usize) -> usize {
 
 impl<A: Allocator> Islands<A> {
     /// Whether [`read_through`](Islands::read_through) reads `n` octets more cheaply than a read in place does: fewer than
-    /// 16,384 came since the stream began, and fewer than `n` stand past the last place that came, so that a read in place
-    /// would first have zeros written there.
+    /// 16,384 came since the stream began, and fewer than half of `n` stand past the last place that came, so that a read in
+    /// place would first have zeros written to the rest.
     #[inline]
     pub fn is_cheaper_through(&self, n: usize) -> bool {
-        self.end < FEW && self.ahead().len() < n
+        self.end < FEW && self.ahead().len() < n / 2
     }
 
     /// Has `n` octets stand past the last place that came if so many would stand there had each
@@ -64,6 +64,7 @@ impl<A: Allocator> Islands<A> {
         ensures unread { OnErr result (Keeps (R.remaining from.old) (R.remaining from.new)) }
         ensures room { self.new.room ≡ self.old.room }
     {
+        // Asked before memory is asked for again.
         let stand = still_stand(self.would_stand, self.octets.capacity());
         reserve_past(
             &mut self.octets,

@@ -68,6 +68,7 @@ fn read_through<A: Allocator, R: Read>(
         Brings islands.old.arrived islands.new.arrived (R.remaining from.old) (R.remaining from.new) got) }
     ensures err { OnErr result ((islands.new.arrived ≡ islands.old.arrived) × Keeps (R.remaining from.old) (R.remaining from.new)) }
 {
+    // Its clauses tell the limits that the proof needs.
     let _end = islands.end();
     let (front, _) = scratch.split_at_mut(n);
     islands.read_through(from, front)
@@ -105,6 +106,7 @@ impl<A: Allocator> Incoming<A> {
         self.unsearched.delivered(from, to);
         Ok(Intake::Came(got))
     }
+
     /// Whether `read_through` is the cheaper way to read.
     #[inline]
     pub(crate) fn is_cheaper_through(&self) -> bool {

@@ -71,8 +71,9 @@ impl<A: Allocator> Stream<A> {
             Err(error) => Err(error),
         }
     }
+
     /// Whether [`Stream::read_through`] is the cheaper way to read: fewer than 16,384 octets came yet, and a read in place
-    /// would first have zeros written to where they are to stand.
+    /// would first have zeros written to most of where they are to stand.
     #[inline]
     pub fn is_cheaper_through(&self) -> bool {
         !self.ending.has_ended() && self.arrived.is_cheaper_through()

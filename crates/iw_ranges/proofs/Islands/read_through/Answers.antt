@@ -6,7 +6,7 @@ use Rattle.iw_ranges.specs.Spans.{IsFromStart}
 use Rattle.iw_ranges.proofs.Adds.{add_from_start}
 use Rattle.iw_ranges.proofs.InPlace.{same_kept, sound_kept, reaches_floor, most_near}
 use Rattle.iw_ranges.proofs.Moves.{shorter}
-use Rattle.iw_ranges.proofs.Aside.{TakesIn, sound_through, delivers_through, kept_through}
+use Rattle.iw_ranges.proofs.ReadThrough.{TakesIn, sound_through, delivers_through, kept_through}
 use Rattle.iw_ranges.proofs.Islands.read_through.Given as given
 use Rattle.iw_ranges.proofs.Islands.read_through.Goals as goal
 

@@ -1,9 +1,10 @@
 use Rattle.std.proofs.Common.{◌≡◌, ◌≤◌, ◌-◌, vec_len, vec_capacity}
-use Rattle.iw_endpoint.proofs.scratch.extended.Given as goal
+use Rattle.iw_endpoint.proofs.zeros.extended.Given as goal
 
 abbrev pub invariant-zeros : goal.invariant-zeros
 invariant-zeros g l = record {
   len : vec_len l.octets ≤ l.len;
+  room : l.len ≤ vec_capacity l.octets;
   memory : vec_capacity l.octets ≡ vec_capacity l.fn.octets;
 }
 
