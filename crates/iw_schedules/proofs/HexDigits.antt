@@ -1,7 +1,7 @@
 -- Hexadecimal digits of many octets.
-use Rattle.std.proofs.Common.{◌≡◌, ℕ, zero, suc, ◌+◌, ◌-◌, ◌*◌, ◌%◌, ◌<◌, ◌≤◌, Bool, true, ◌&&◌, ltb, inl, inr, List, [], ◌∷◌, ◌++◌, length, take, drop, slice_index, slice_set, Option, Some, None, unwrap_or, Err, Ok, refl, sym, ap, ◌∙◌, arith, append_assoc}
+use Rattle.std.proofs.Common.{◌≡◌, ℕ, zero, suc, ◌+◌, ◌-◌, ◌*◌, ◌%◌, ◌<◌, ◌≤◌, Bool, true, ◌&&◌, ltb, inl, inr, List, [], ◌∷◌, ◌++◌, length, take, drop, slice_index, slice_set, Option, Some, None, unwrap_or, Err, Ok, refl, sym, ap, subst, ◌∙◌, arith, append_assoc}
 use Rattle.std.proofs.lemmas.Bool.{and_parts, cases_lt, ltb-true}
-use Rattle.std.proofs.lemmas.List.{append-nil, drop_all, take-append-drop, take_rest}
+use Rattle.std.proofs.lemmas.List.{append-nil, get_or-drop, get_or-take, drop_all, take-append-drop, take_rest}
 use Rattle.std.proofs.lemmas.Str.{IsUtf8-from_ascii}
 use Rattle.std.proofs.lemmas.Str.Ascii.{IsAscii-from_reads}
 use Rattle.std.specs.Str.{IsAscii, IsUtf8}
@@ -132,3 +132,31 @@ pair_refused s out i high low largest largest' fits eh el either inv refused ge 
                 ]
           ]
     ]
+
+-- the number of a digit is that of the one where it stands
+digit_there : (s : List ℕ) (from m k at number : ℕ) → k < m → from + k ≡ at
+    → number ≡ unwrap_or (hex_digit_value (slice_index (take m (drop from s)) k)) 255
+    → number ≡ unwrap_or (hex_digit_value (slice_index s at)) 255
+digit_there s from m k at number below e is =
+    let there : slice_index (take m (drop from s)) k ≡ slice_index s at =
+        get_or-take m (drop from s) k 0 below ∙ get_or-drop from s k 0 ∙ ap (slice_index s) e in
+    is ∙ ap (λ x. unwrap_or (hex_digit_value x) 255) there
+
+-- one more octet is joined of the numbers of 64 digits
+pub octet_joined : (s out numbers : List ℕ) (done i m : ℕ) → 64 ≤ m → i < 32 → done + 32 ≤ length out → length s ≡ 2 * length out
+    → ((k : ℕ) → k < 64 → slice_index numbers k < 16)
+    → ((k : ℕ) → k < 64 → slice_index numbers k ≡ unwrap_or (hex_digit_value (slice_index (take m (drop (2 * done) s)) k)) 255)
+    → IsReadTo s out (done + i)
+    → IsReadTo s (slice_set out (done + i) ((slice_index numbers (2 * i) * 16 % 256 + slice_index numbers (2 * i + 1)) % 256)) (done + (i + 1))
+octet_joined s out numbers done i m many below room double small read inv =
+    let high = slice_index numbers (2 * i) in
+    let low = slice_index numbers (2 * i + 1) in
+    let h : high ≡ unwrap_or (hex_digit_value (slice_index s (2 * (done + i)))) 255 =
+        digit_there s (2 * done) m (2 * i) (2 * (done + i)) high (omega arith) (omega arith) (read (2 * i) (omega arith)) in
+    let l : low ≡ unwrap_or (hex_digit_value (slice_index s (2 * (done + i) + 1))) 255 =
+        digit_there s (2 * done) m (2 * i + 1) (2 * (done + i) + 1) low (omega arith) (omega arith) (read (2 * i + 1) (omega arith)) in
+    let h16 : high < 16 = small (2 * i) (omega arith) in
+    let l16 : low < 16 = small (2 * i + 1) (omega arith) in
+    let next : done + i + 1 ≡ done + (i + 1) = omega arith in
+    subst (λ n. IsReadTo s (slice_set out (done + i) ((high * 16 % 256 + low) % 256)) n) next
+    (pair_read s out (done + i) high low 15 15 (omega arith) (omega arith) h l (omega arith) (omega arith) (omega arith) (λ _. inv) (omega arith))

@@ -1,8 +1,8 @@
-use Rattle.std.proofs.Common.{arith, ◌∙◌}
+use Rattle.std.proofs.Common.{arith, refl, ◌+◌, ◌-◌, ◌*◌, ◌∙◌}
 use Rattle.std.proofs.lemmas.Bool.{ltb-true}
 use Rattle.hex.proofs.Pairs.{decode_done}
 use Rattle.hex.proofs.HexLemmas.{decode_of-even}
-use Rattle.iw_schedules.proofs.HexDigits.{pair_read, pair_refused}
+use Rattle.iw_schedules.proofs.HexDigits.{pair_read, pair_refused, octet_joined}
 use Rattle.iw_schedules.proofs.hexadecimal.read.Goals as goal
 
 pub pairs-preserved : goal.pairs-preserved
@@ -21,3 +21,11 @@ returns-clause-read c =
     let s = c.args.digits.now in
     let l = c.pairs in
     λ all. decode_of-even s (omega (arith, c.requires)) ∙ decode_done s l.octets l.i (omega arith) (omega (arith, c.requires)) (l.invariant.read (ltb-true l.largest 16 all))
+
+pub joined-preserved : goal.joined-preserved
+joined-preserved c =
+    let s = c.args.digits.now in
+    let l = c.joined in
+    let numbers = c.read_numbers.new.numbers in
+    octet_joined s l.octets numbers c.some.done l.i (2 * c.some.done + 64 - 2 * c.some.done) (omega arith) (omega arith) (omega arith) (omega arith)
+    (c.if-read_numbers.ensures.small refl) (c.if-read_numbers.ensures.read refl) l.invariant
