@@ -415,14 +415,14 @@ impl<A: Allocator> Endpoint<A> {
         }
     }
 
-    /// Reads once from a stream's connection, right to where the octets are to stand: at most 65,536 octets, and no more than
-    /// the window has room for. It is one delivery of what was read, past the last octet that came, and none of it is dropped,
-    /// unless the stream has ended: such a stream still reads, and drops. The first octet that is read has the sequence number
-    /// of [`Endpoint::first_number`], if nothing came before.
+    /// Reads once from a stream's connection, mostly right to where the octets are to stand: at most 65,536 octets, and no
+    /// more than the window has room for. It is one delivery of what was read, past the last octet that came, and none of it
+    /// is dropped, unless the stream has ended: such a stream still reads, and drops. The first octet that is read has the
+    /// sequence number of [`Endpoint::first_number`], if nothing came before.
     ///
-    /// The first 16,384 octets of a stream may be read by way of 65,536 octets that the endpoint has for all its streams, and
-    /// are copied then. It takes their memory once eight streams were read in place, does without it where there is none, and
-    /// gives it back when fewer than eight streams are left.
+    /// While no octet from a stream's 16,384th on came, it may be read by way of 65,536 octets that the endpoint has for all
+    /// its streams; what is read is copied then. The endpoint takes their memory once eight streams were read in place, does
+    /// without it where there is none, and gives it back when fewer than eight streams are left.
     ///
     /// `Refused` has the error of the reader, also if the read would block or was interrupted, or one of the kind
     /// `OutOfMemory`. Nothing was read then. An `Err` changes nothing.

@@ -21,9 +21,9 @@ pub(crate) fn still_stand(would_stand: usize, capacity: usize) -> usize {
 }
 
 impl<A: Allocator> Islands<A> {
-    /// Whether [`read_through`](Islands::read_through) reads `n` octets more cheaply than a read in place does: fewer than
-    /// 16,384 came since the stream began, and fewer than half of `n` stand past the last place that came, so that a read in
-    /// place would first have zeros written to the rest.
+    /// Whether [`read_through`](Islands::read_through) reads `n` octets more cheaply than a read in place does: no octet from
+    /// the stream's 16,384th on came, and fewer than half of `n` stand past the last place that came, so that a read in place
+    /// would first have zeros written to the rest.
     #[inline]
     pub fn is_cheaper_through(&self, n: usize) -> bool {
         self.end < FEW && self.ahead().len() < n / 2

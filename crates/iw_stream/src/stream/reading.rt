@@ -72,8 +72,8 @@ impl<A: Allocator> Stream<A> {
         }
     }
 
-    /// Whether [`Stream::read_through`] is the cheaper way to read: fewer than 16,384 octets came yet, and a read in place
-    /// would first have zeros written to most of where they are to stand.
+    /// Whether [`Stream::read_through`] is the cheaper way to read: no octet from the stream's 16,384th on came yet, and a
+    /// read in place would first have zeros written to most of where the octets are to stand.
     #[inline]
     pub fn is_cheaper_through(&self) -> bool {
         !self.ending.has_ended() && self.arrived.is_cheaper_through()
