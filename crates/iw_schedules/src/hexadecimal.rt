@@ -1,6 +1,6 @@
 //! Hexadecimal digits of many octets at once.
 
-ghost use Rattle.std.specs.Prelude.{◌≡◌, ◌*◌, ◌<◌, ◌≤◌, ◌++◌, ℕ, true, false, Ok, Err, OnOk, length, take, slice_index};
+ghost use Rattle.std.specs.Prelude.{◌≡◌, ◌*◌, ◌<◌, ◌≤◌, ◌++◌, ℕ, true, false, None, Ok, Err, OnOk, length, take, slice_index};
 ghost use Rattle.std.specs.Option.{unwrap_or};
 ghost use Rattle.std.specs.Prelude.{string_bytes};
 ghost use Rattle.hex.specs.Hex.{lower_digits, encode_lower, hex_digit_value, decode_of};
@@ -98,6 +98,7 @@ fn read_numbers(digits: &[u8], numbers: &mut [u8; DIGITS_AT_ONCE]) -> bool
     ensures small { result ≡ true → (k : ℕ) → k < 64 → slice_index numbers.new k < 16 }
     ensures read { result ≡ true → (k : ℕ) → k < 64 →
         slice_index numbers.new k ≡ unwrap_or (hex_digit_value (slice_index digits.now k)) NO_DIGIT }
+    ensures refused { result ≡ false → (k : ℕ) × (k < 64) × (hex_digit_value (slice_index digits.now k) ≡ None) }
 {
     let mut largest = 0;
     'digits: for i in 0..DIGITS_AT_ONCE {
@@ -117,12 +118,14 @@ pub(crate) fn read(digits: &[u8], octets: &mut [u8]) -> bool
 {
     let mut numbers = [0; DIGITS_AT_ONCE];
     let mut done = 0;
-    // Many at a time, up to some that are not all digits.
-    'some: while octets.len() - done >= DIGITS_AT_ONCE / 2
-        && read_numbers(&digits[2 * done..2 * done + DIGITS_AT_ONCE], &mut numbers)
-    {
+    'some: while octets.len() - done >= DIGITS_AT_ONCE / 2 {
+        if !read_numbers(&digits[2 * done..2 * done + DIGITS_AT_ONCE], &mut numbers) {
+            return false;
+        }
         'joined: for i in 0..DIGITS_AT_ONCE / 2 {
-            octets[done + i] = numbers[2 * i].wrapping_mul(16).wrapping_add(numbers[2 * i + 1]);
+            octets[done + i] = numbers[2 * i]
+                .wrapping_mul(16)
+                .wrapping_add(numbers[2 * i + 1]);
         }
         done += DIGITS_AT_ONCE / 2;
     }

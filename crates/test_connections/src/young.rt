@@ -14,9 +14,9 @@ use test_support::Halting;
 const STREAMS: u32 = 8;
 
 /// Octets of one call: few; about what a young stream may read by way of the scratch; about what one read takes at most.
-const SIZES: [usize; 16] = [
-    0, 1, 20, 64, 100, 511, 1_460, 2_000, 8_192, 16_383, 16_384, 16_385, 65_500, 65_535, 65_536,
-    65_537,
+const SIZES: [usize; 20] = [
+    0, 1, 20, 64, 100, 511, 1_460, 2_000, 8_192, 16_383, 16_384, 16_385, 32_767, 32_768, 32_769,
+    40_000, 65_500, 65_535, 65_536, 65_537,
 ];
 
 // Numbers that follow from a seed.
@@ -36,7 +36,7 @@ impl Numbers {
     }
 
     fn size(&mut self) -> usize {
-        let near = SIZES.get(self.next(16) as usize).copied().unwrap_or(0);
+        let near = SIZES.get(self.next(20) as usize).copied().unwrap_or(0);
         let less = self.next(3).saturating_mul(self.next(40));
         near.saturating_sub(less as usize)
     }

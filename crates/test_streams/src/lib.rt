@@ -1,6 +1,6 @@
 //! Tests of streams without end, over the public interface of `iw_endpoint`: which number each is given, what is answered
-//! once it was closed, which regions are its own, that a call which is refused memory changes nothing, and that a read
-//! needs no memory but its stream's.
+//! once it was closed, which regions are its own, that a call which is refused memory changes nothing, that a read needs
+//! no memory but its stream's, and that no reader is handed what came at another stream.
 #![tactic(auto)]
 
 #[cfg(test)]

@@ -1,7 +1,8 @@
-//! The first reads of streams, at an endpoint that would read by way of its scratch and is refused the memory for it.
+//! The first reads of streams, at an endpoint that reads by way of its scratch, or is refused the memory for it.
 
 use iw_endpoint::{Config, Endpoint, Establishment, Intake, PrivateData, Role};
 use std::alloc::Global;
+use std::io::{self, Read};
 use std::test::Fail;
 use test_support::FailsAt;
 
@@ -56,5 +57,33 @@ fn a_read_needs_no_memory_but_its_streams(rt: HostRuntime) -> Result<(), Fail> {
         Intake::Came(2)
     );
     assert!(rt; !heap.has_refused());
+    Ok(())
+}
+
+// A reader that writes a few octets, and notes whether it was handed nothing but zeros.
+#[derive(Drop)]
+struct Looking {
+    is_clear: bool,
+}
+
+impl Read for Looking {
+    fn read(&mut self, buf: &mut [u8]) -> io::Result<usize> {
+        self.is_clear = buf.iter().all(|octet| *octet == 0);
+        let n = buf.len().min(100);
+        let (front, _) = buf.split_at_mut(n);
+        front.fill(9);
+        Ok(n)
+    }
+}
+
+#[test]
+fn no_reader_is_handed_what_came_at_another_stream(rt: HostRuntime) -> Result<(), Fail> {
+    let heap = FailsAt::new(rt.alloc(), u64::MAX);
+    let mut endpoint = endpoint(&heap)?;
+    for number in STREAMS..STREAMS + 2 {
+        let mut reader = Looking { is_clear: false };
+        assert_eq!(rt; endpoint.read_from(number, &mut reader)?, Intake::Came(100));
+        assert!(rt; reader.is_clear);
+    }
     Ok(())
 }
