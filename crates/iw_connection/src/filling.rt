@@ -1,5 +1,5 @@
-ghost use Rattle.std.specs.Prelude.{◌≡◌, ◌<◌, ◌≤◌, ◌+◌, ◌^◌, ◌++◌, ℕ, false, length, IfOk, OnOk, OnErr};
-ghost use Rattle.iw_endpoint.specs.Endpoint.{emission_at, emitted_at, after_emit, sent_at};
+ghost use Rattle.std.specs.Prelude.{◌≡◌, ◌<◌, ◌≤◌, ◌+◌, ◌++◌, ℕ, false, length, IfOk, OnOk, OnErr};
+ghost use Rattle.iw_endpoint.specs.Endpoint.{emission_at, emitted_at, after_emit};
 ghost use Rattle.iw_connection.specs.Filling.{Emits, Fills, Stopped};
 
 use crate::StreamNumber;
@@ -22,7 +22,6 @@ pub enum Filled {
 // How many octets the next emission has.
 fn due_len<A: Allocator>(endpoint: &Endpoint<A>, number: StreamNumber) -> Result<usize, Refusal>
     ensures len { IfOk result (λ len. len ≡ length (emitted_at endpoint.now number)) }
-    ensures sent { OnOk result (sent_at endpoint.now number ≤ 2 ^ 62) }
 {
     match endpoint.sent(number) {
         Ok(sent) if sent <= MAX_PLACE => {}
@@ -45,19 +44,22 @@ fn is_too_many(n: u64, filled: usize, due: usize, most: usize) -> bool
     filled > most || due > most - filled
 }
 
-// Emits what is due, and tells where it stops, unless that is a frame. That no more than 2^62 octets were emitted was seen by
-// `due_len`.
+// Emits what is due, and tells where it stops, unless that is a frame.
 fn emit<A: Allocator>(
     endpoint: &mut Endpoint<A>,
     number: StreamNumber,
     out: &mut Vec<u8, A>,
 ) -> Result<Option<Filled>, Refusal>
-    requires { sent_at endpoint.old number ≤ 2 ^ 62 }
     ensures stopped { IfOk result (λ stopped. Stopped (emission_at endpoint.old number) stopped) }
     ensures out { OnOk result (out.new.items ≡ out.old.items ++ emitted_at endpoint.old number) }
     ensures after { OnOk result (endpoint.new ≡ after_emit endpoint.old number) }
     ensures err { OnErr result ((endpoint.new ≡ endpoint.old) × (out.new.items ≡ out.old.items)) }
 {
+    match endpoint.sent(number) {
+        Ok(sent) if sent <= MAX_PLACE => {}
+        Ok(_) => return Err(Refusal::TooFar),
+        Err(_) => return Err(Refusal::NoSuchStream),
+    }
     match endpoint.emit(number, out) {
         Ok(Emission::Frame { .. }) => Ok(None),
         Ok(Emission::Fetched { .. }) => Ok(None),
