@@ -1,17 +1,15 @@
 -- Hexadecimal digits of many octets.
-use Rattle.std.proofs.Common.{◌≡◌, ℕ, zero, suc, ◌+◌, ◌-◌, ◌*◌, ◌%◌, ◌<◌, ◌≤◌, Bool, true, ◌&&◌, ltb, inl, inr, List, [], ◌∷◌, ◌++◌, length, take, drop, slice_index, slice_set, Option, Some, None, unwrap_or, Err, Ok, refl, sym, ap, subst, ◌∙◌, arith, append_assoc}
+use Rattle.std.proofs.Common.{◌≡◌, ℕ, zero, suc, ◌+◌, ◌-◌, ◌*◌, ◌%◌, ◌<◌, ◌≤◌, Bool, true, ◌&&◌, ltb, inl, inr, List, [], ◌∷◌, ◌++◌, length, take, drop, slice_index, slice_set, Option, Some, None, unwrap_or, Err, Ok, refl, sym, ap, ◌∙◌, arith, append_assoc}
 use Rattle.std.proofs.lemmas.Bool.{and_parts, cases_lt, ltb-true}
-use Rattle.std.proofs.lemmas.List.{append-nil, get_or-drop, get_or-take, length-set, drop_all, take-append-drop, take_rest}
+use Rattle.std.proofs.lemmas.List.{append-nil, drop_all, take-append-drop, take_rest}
 use Rattle.std.proofs.lemmas.Str.{IsUtf8-from_ascii}
 use Rattle.std.proofs.lemmas.Str.Ascii.{IsAscii-from_reads}
 use Rattle.std.specs.Str.{IsAscii, IsUtf8}
-use Rattle.hex.specs.Hex.{lower_digits, encode_lower, encode_with, hex_digit_value, digit_or_error, value_at, pair_value, decode_pairs, decode_of}
+use Rattle.hex.specs.Hex.{lower_digits, encode_lower, encode_with, hex_digit_value, digit_or_error, value_at, pair_value, decode_pairs}
 use Rattle.hex.specs.declared.error.FromHexError.{FromHexError}
 use Rattle.hex.specs.declared.error.FromHexError.TheVariants.{InvalidHexCharacter}
 use Rattle.hex.proofs.Pairs.{prepend, decode_step, decode_err}
-use Rattle.hex.proofs.HexLemmas.{IsAscii-encode_with, decode_of-even}
-use Rattle.iw_schedules.specs.Reading.{or_fault}
-use Rattle.iw_schedules.specs.declared.fault.FaultName.TheVariants.{BadOctets}
+use Rattle.hex.proofs.HexLemmas.{IsAscii-encode_with}
 
 -- ---- printing
 
@@ -134,84 +132,3 @@ pair_refused s out i high low largest largest' fits eh el either inv refused ge 
                 ]
           ]
     ]
-
--- the number of a digit is that of the one where it stands
-digit_there : (s : List ℕ) (from m k at number : ℕ) → k < m → from + k ≡ at
-    → number ≡ unwrap_or (hex_digit_value (slice_index (take m (drop from s)) k)) 255
-    → number ≡ unwrap_or (hex_digit_value (slice_index s at)) 255
-digit_there s from m k at number below e is =
-    let there : slice_index (take m (drop from s)) k ≡ slice_index s at =
-    get_or-take m (drop from s) k 0 below ∙ get_or-drop from s k 0 ∙ ap (slice_index s) e in
-    is ∙ ap (λ x. unwrap_or (hex_digit_value x) 255) there
-
--- one more octet is joined of the numbers of 64 digits
-pub octet_joined : (s out numbers : List ℕ) (done i m : ℕ) → 64 ≤ m → i < 32 → done + 32 ≤ length out → length s ≡ 2 * length out
-    → ((k : ℕ) → k < 64 → slice_index numbers k < 16)
-    → ((k : ℕ) → k < 64 → slice_index numbers k ≡ unwrap_or (hex_digit_value (slice_index (take m (drop (2 * done) s)) k)) 255)
-    → IsReadTo s out (done + i)
-    → IsReadTo s (slice_set out (done + i) ((slice_index numbers (2 * i) * 16 % 256 + slice_index numbers (2 * i + 1)) % 256)) (done + (i + 1))
-octet_joined s out numbers done i m many below room double small read inv =
-    let high = slice_index numbers (2 * i) in
-    let low = slice_index numbers (2 * i + 1) in
-    let h : high ≡ unwrap_or (hex_digit_value (slice_index s (2 * (done + i)))) 255 =
-    digit_there s (2 * done) m (2 * i) (2 * (done + i)) high (omega arith) (omega arith) (read (2 * i) (omega arith)) in
-    let l : low ≡ unwrap_or (hex_digit_value (slice_index s (2 * (done + i) + 1))) 255 =
-    digit_there s (2 * done) m (2 * i + 1) (2 * (done + i) + 1) low (omega arith) (omega arith) (read (2 * i + 1) (omega arith)) in
-    let h16 : high < 16 = small (2 * i) (omega arith) in
-    let l16 : low < 16 = small (2 * i + 1) (omega arith) in
-    let next : done + i + 1 ≡ done + (i + 1) = omega arith in
-    subst (λ n. IsReadTo s (slice_set out (done + i) ((high * 16 % 256 + low) % 256)) n) next
-    (pair_read s out (done + i) high low 15 15 (omega arith) (omega arith) h l (omega arith) (omega arith) (omega arith) (λ _. inv) (omega arith))
-
--- a number of 16 or more is that of no digit
-pub no_digit : (c number : ℕ) → 16 ≤ number → number ≡ unwrap_or (hex_digit_value c) 255 → hex_digit_value c ≡ None
-no_digit c number ge e = none_from (hex_digit_value c) number (is_small c) ge e
-
-is_no_number : (c : ℕ) → hex_digit_value c ≡ None → 16 ≤ unwrap_or (hex_digit_value c) 255
-is_no_number c none = let e : unwrap_or (hex_digit_value c) 255 ≡ 255 = ap (λ o. unwrap_or o 255) none in omega (arith, e)
-
--- one of the digits after what is read is none
-pub one_refuses : (n : ℕ) (s out : List ℕ) (i k : ℕ) → 2 * i ≤ k → k < 2 * (i + n) → 2 * (i + n) ≤ length s → i + n ≤ length out
-    → hex_digit_value (slice_index s k) ≡ None → IsReadTo s out i → Refuses s
-one_refuses zero s out i k low high fits room none inv = absurd (omega arith)
-one_refuses (suc n) s out i k low high fits room none inv =
-    let x = unwrap_or (hex_digit_value (slice_index s (2 * i))) 255 in
-    let y = unwrap_or (hex_digit_value (slice_index s (2 * i + 1))) 255 in
-    let out' = slice_set out i ((x * 16 % 256 + y) % 256) in
-    elim (cases_lt x 16) [
-      | inr no_high ↦ pair_refused s out i x y 15 x (omega arith) refl refl (λ _ a _. a) (λ _. inv) (λ no. absurd (omega arith)) no_high
-      | inl is_high ↦
-          elim (cases_lt y 16) [
-            | inr no_low ↦ pair_refused s out i x y 15 y (omega arith) refl refl (λ _ _ b. b) (λ _. inv) (λ no. absurd (omega arith)) no_low
-            | inl is_low ↦
-                elim (cases_lt k (2 * i + 2)) [
-                  | inl here ↦
-                      elim (cases_lt k (2 * i + 1)) [
-                        | inl first ↦
-                            let at : k ≡ 2 * i = omega arith in
-                            let no = is_no_number (slice_index s (2 * i)) (subst (λ m. hex_digit_value (slice_index s m) ≡ None) at none) in
-                            absurd (omega (arith, no, is_high))
-                        | inr second ↦
-                            let at : k ≡ 2 * i + 1 = omega arith in
-                            let no = is_no_number (slice_index s (2 * i + 1)) (subst (λ m. hex_digit_value (slice_index s m) ≡ None) at none) in
-                            absurd (omega (arith, no, is_low))
-                      ]
-                  | inr past ↦
-                      one_refuses n s out' (i + 1) k (omega arith) (omega arith) (omega arith) (omega (arith, length-set out i ((x * 16 % 256 + y) % 256))) none
-                      (pair_read s out i x y 15 15 (omega arith) (omega arith) refl refl (omega arith) (omega arith) (omega arith) (λ _. inv) (omega arith))
-                ]
-          ]
-    ]
-
--- one of some digits that are read at once is none
-pub some_refuse : (s out : List ℕ) (done m : ℕ) → 64 ≤ m → done + 32 ≤ length out → length s ≡ 2 * length out
-    → (k : ℕ) × (k < 64) × (hex_digit_value (slice_index (take m (drop (2 * done) s)) k) ≡ None)
-    → IsReadTo s out done → Refuses s
-some_refuse s out done m many room double (k, below, none) inv =
-    let there : slice_index (take m (drop (2 * done) s)) k ≡ slice_index s (2 * done + k) =
-    get_or-take m (drop (2 * done) s) k 0 (omega arith) ∙ get_or-drop (2 * done) s k 0 in
-    one_refuses 32 s out done (2 * done + k) (omega arith) (omega arith) (omega arith) (omega arith) (sym (ap hex_digit_value there) ∙ none) inv
-
--- digits that stand for no octets are a fault
-pub are_bad : (s : List ℕ) (n : ℕ) → length s ≡ 2 * n → Refuses s → or_fault BadOctets (decode_of s) ≡ Err BadOctets
-are_bad s n double (e, is) = ap (or_fault BadOctets) (decode_of-even s (omega (arith, double)) ∙ is)

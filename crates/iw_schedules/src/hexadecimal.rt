@@ -1,6 +1,6 @@
 //! Hexadecimal digits of many octets at once.
 
-ghost use Rattle.std.specs.Prelude.{◌≡◌, ◌*◌, ◌<◌, ◌≤◌, ◌++◌, ℕ, true, false, None, Ok, Err, OnOk, length, take, slice_index};
+ghost use Rattle.std.specs.Prelude.{◌≡◌, ◌*◌, ◌<◌, ◌≤◌, ◌++◌, true, false, Ok, Err, OnOk, length, take, slice_index};
 ghost use Rattle.std.specs.Option.{unwrap_or};
 ghost use Rattle.std.specs.Prelude.{string_bytes};
 ghost use Rattle.hex.specs.Hex.{lower_digits, encode_lower, hex_digit_value, decode_of};
@@ -11,9 +11,6 @@ use std::alloc::{AllocError, Allocator};
 
 /// The most octets whose digits are made at once.
 pub(crate) const AT_ONCE: usize = 64;
-
-// How many digits are read at once.
-const DIGITS_AT_ONCE: usize = 64;
 
 // What stands for a character that is no digit.
 const NO_DIGIT: u8 = 255;
@@ -90,25 +87,6 @@ fn larger(one: u8, other: u8) -> u8
     if one < other { other } else { one }
 }
 
-// The numbers that some digits stand for. Returns whether all characters are digits. The loop has neither a branch nor a
-// table, so that the compiler makes it one of vectors.
-#[inline(always)]
-fn read_numbers(digits: &[u8], numbers: &mut [u8; DIGITS_AT_ONCE]) -> bool
-    requires { length digits.now ≡ 64 }
-    ensures small { result ≡ true → (k : ℕ) → k < 64 → slice_index numbers.new k < 16 }
-    ensures read { result ≡ true → (k : ℕ) → k < 64 →
-        slice_index numbers.new k ≡ unwrap_or (hex_digit_value (slice_index digits.now k)) NO_DIGIT }
-    ensures refused { result ≡ false → (k : ℕ) × (k < 64) × (hex_digit_value (slice_index digits.now k) ≡ None) }
-{
-    let mut largest = 0;
-    'digits: for i in 0..DIGITS_AT_ONCE {
-        let number = value(digits[i]);
-        largest = larger(largest, number);
-        numbers[i] = number;
-    }
-    largest < 16
-}
-
 /// Writes the octets that digits stand for. Returns whether all characters are digits; if not, the octets mean nothing.
 pub(crate) fn read(digits: &[u8], octets: &mut [u8]) -> bool
     requires { length digits.now ≡ 2 * length octets.old }
@@ -116,21 +94,8 @@ pub(crate) fn read(digits: &[u8], octets: &mut [u8]) -> bool
     ensures refused { result ≡ false → or_fault BadOctets (decode_of digits.now) ≡ Err BadOctets }
     ensures len { length octets.new ≡ length octets.old }
 {
-    let mut numbers = [0; DIGITS_AT_ONCE];
-    let mut done = 0;
-    'some: while octets.len() - done >= DIGITS_AT_ONCE / 2 {
-        if !read_numbers(&digits[2 * done..2 * done + DIGITS_AT_ONCE], &mut numbers) {
-            return false;
-        }
-        'joined: for i in 0..DIGITS_AT_ONCE / 2 {
-            octets[done + i] = numbers[2 * i]
-                .wrapping_mul(16)
-                .wrapping_add(numbers[2 * i + 1]);
-        }
-        done += DIGITS_AT_ONCE / 2;
-    }
     let mut largest = 0;
-    'pairs: for i in done..octets.len() {
+    'pairs: for i in 0..octets.len() {
         let high = value(digits[2 * i]);
         let low = value(digits[2 * i + 1]);
         largest = larger(largest, larger(high, low));

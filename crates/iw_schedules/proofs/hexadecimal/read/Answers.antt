@@ -1,8 +1,8 @@
-use Rattle.std.proofs.Common.{arith, refl, length, ◌+◌, ◌-◌, ◌*◌, ◌∙◌}
+use Rattle.std.proofs.Common.{arith, ◌∙◌}
 use Rattle.std.proofs.lemmas.Bool.{ltb-true}
 use Rattle.hex.proofs.Pairs.{decode_done}
 use Rattle.hex.proofs.HexLemmas.{decode_of-even}
-use Rattle.iw_schedules.proofs.HexDigits.{pair_read, pair_refused, octet_joined, some_refuse, are_bad}
+use Rattle.iw_schedules.proofs.HexDigits.{pair_read, pair_refused}
 use Rattle.iw_schedules.proofs.hexadecimal.read.Goals as goal
 
 pub pairs-preserved : goal.pairs-preserved
@@ -21,18 +21,3 @@ returns-clause-read c =
     let s = c.args.digits.now in
     let l = c.pairs in
     λ all. decode_of-even s (omega (arith, c.requires)) ∙ decode_done s l.octets l.i (omega arith) (omega (arith, c.requires)) (l.invariant.read (ltb-true l.largest 16 all))
-
-pub joined-preserved : goal.joined-preserved
-joined-preserved c =
-    let s = c.args.digits.now in
-    let l = c.joined in
-    let numbers = c.read_numbers.new.numbers in
-    octet_joined s l.octets numbers c.some.done l.i (2 * c.some.done + 64 - 2 * c.some.done) (omega arith) (omega arith) (omega arith) (omega arith)
-    (c.if-not-read_numbers.ensures.small refl) (c.if-not-read_numbers.ensures.read refl) l.invariant
-
-pub returns-then-not-read_numbers-clause-refused : goal.returns-then-not-read_numbers-clause-refused
-returns-then-not-read_numbers-clause-refused c =
-    let s = c.args.digits.now in
-    let l = c.some in
-    λ no. are_bad s (length l.octets) (omega arith)
-    (some_refuse s l.octets l.done (2 * l.done + 64 - 2 * l.done) (omega arith) (omega arith) (omega arith) (c.if-not-read_numbers.ensures.refused refl) l.invariant.read)
