@@ -1,14 +1,54 @@
 -- Octets that stood elsewhere and are taken in past the last that came.
-use Rattle.std.proofs.Common.{◌≡◌, ℕ, ◌+◌, ◌-◌, ◌<◌, ◌≤◌, ◌&&◌, cond, ltb, leb, List, drop, length, get_or, max, refl, sym, ap, ◌∙◌, arith}
+use Rattle.std.proofs.Common.{◌≡◌, ℕ, ◌+◌, ◌-◌, ◌<◌, ◌≤◌, ◌&&◌, cond, ltb, leb, List, take, drop, length, get_or, max, refl, sym, ap, ◌∙◌, arith, inl, inr}
+use Rattle.std.proofs.lemmas.Bool.{cases_lt}
+use Rattle.std.proofs.lemmas.List.{get_or-take, get_or_past}
+use Rattle.std.proofs.lemmas.Bool.Decides.{nat_tests}
 use Rattle.iw_ranges.specs.declared.spans.Span.{Span}
 use Rattle.iw_ranges.specs.declared.Delivery.TheVariants.{Kept}
-use Rattle.iw_ranges.specs.Spans.{in_spans, first_end, add_span}
+use Rattle.iw_ranges.specs.Spans.{in_spans, first_end, add_span, HasSameOctets}
 use Rattle.iw_ranges.specs.Arrived.{Arrived, delivery, delivered, end_of, window, max_held}
 use Rattle.iw_ranges.specs.Fields.{Fields, arrived_in, IsSound}
 use Rattle.iw_ranges.proofs.Cells.{top_reaches}
 use Rattle.iw_ranges.proofs.Fills.{laid_free, not_in}
 use Rattle.iw_ranges.proofs.Keeps.{PutsIn, sound_put, put_delivers, kept_is, kept_after}
 use Rattle.iw_ranges.proofs.InPlace.{end_via, reaches_floor}
+
+-- what stands past place `end` may be another
+pub same_before : (base begin : ℕ) (octets cut after : List ℕ) (end : ℕ) → HasSameOctets base octets begin cut end → ((i : ℕ) → i < end - begin → get_or after i 0 ≡ get_or cut i 0) → HasSameOctets base octets begin after end
+same_before base begin octets cut after end same before = λ p low high. before (p - begin) (omega (arith, low, high)) ∙ same p low high
+
+-- what was laid is there
+pub laid_there : (at n : ℕ) (came octets : List ℕ) → length came ≡ n → ((k : ℕ) → k < n → get_or octets (at + k) 0 ≡ get_or came k 0) → (i : ℕ)
+    → get_or octets i 0 ≡ cond (leb at i && ltb i (at + length came)) (get_or came (i - at) 0) (get_or octets i 0)
+laid_there at n came octets count laid i =
+    elim (cases_lt i at) [
+      | inl before ↦ grind (arith, nat_tests)
+      | inr past ↦ elim (cases_lt i (at + length came)) [
+        | inl inside ↦
+            let is : get_or octets i 0 ≡ get_or came (i - at) 0 = ap (λ m. get_or octets m 0) (omega (arith, past)) ∙ laid (i - at) (omega (arith, past, inside, count)) in
+            grind (arith, nat_tests, is)
+        | inr beyond ↦ grind (arith, nat_tests)
+      ]
+    ]
+
+inside_laid : (at k : ℕ) (came octets after : List ℕ) → get_or after (at + k) 0 ≡ cond (leb at (at + k) && ltb (at + k) (at + length came)) (get_or came (at + k - at) 0) (get_or octets (at + k) 0) → k < length came → get_or after (at + k) 0 ≡ get_or came k 0
+inside_laid at k came octets after laid low =
+    let same : at + k - at ≡ k = omega arith in
+    let there : get_or came (at + k - at) 0 ≡ get_or came k 0 = ap (λ m. get_or came m 0) same in
+    laid ∙ grind (arith, nat_tests, there)
+
+past_laid : (at k : ℕ) (came octets after : List ℕ) → get_or after (at + k) 0 ≡ cond (leb at (at + k) && ltb (at + k) (at + length came)) (get_or came (at + k - at) 0) (get_or octets (at + k) 0) → length came ≤ k → get_or after (at + k) 0 ≡ get_or octets (at + k) 0
+past_laid at k came octets after laid high = laid ∙ grind (arith, nat_tests)
+
+-- the front of a list was laid, past which it has zeros, as far at least as anything stood: all of it is there
+pub all_laid : (at len k : ℕ) (left came octets after : List ℕ) → came ≡ take len left → length came ≡ len
+    → get_or after (at + k) 0 ≡ cond (leb at (at + k) && ltb (at + k) (at + length came)) (get_or came (at + k - at) 0) (get_or octets (at + k) 0)
+    → (len ≤ k → get_or left k 0 ≡ 0) → (len ≤ k → length octets ≤ at + k) → get_or after (at + k) 0 ≡ get_or left k 0
+all_laid at len k left came octets after front count laid zeros stood =
+    elim (cases_lt k len) [
+      | inl inside ↦ inside_laid at k came octets after laid (omega (arith, inside, count)) ∙ ap (λ xs. get_or xs k 0) front ∙ get_or-take len left k 0 inside
+      | inr past ↦ past_laid at k came octets after laid (omega (arith, past, count)) ∙ get_or_past octets (at + k) 0 (stood past) ∙ sym (zeros past)
+    ]
 
 -- the buffer with more octets, up to place `to`
 abbrev pub longer : Fields → List ℕ → List Span → ℕ → ℕ → Fields

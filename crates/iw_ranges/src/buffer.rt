@@ -21,7 +21,7 @@ pub(crate) const MAX_IDLE: usize = 131_072;
 const MAX_MOVED: usize = 4;
 
 /// Writes the octets over those that stand at `at`.
-fn write_at(buffer: &mut [u8], at: usize, octets: &[u8])
+pub(crate) fn write_at(buffer: &mut [u8], at: usize, octets: &[u8])
     requires { at + length octets.now ≤ length buffer.old }
     ensures { (i : ℕ) → i < length buffer.old → slice_index buffer.new i
         ≡ (if nat_le at i && nat_lt i (at + length octets.now) then slice_index octets.now (i - at)

@@ -59,8 +59,10 @@ pub struct Islands<A: Allocator = Global> {
     /// Octets side by side, 327,680 at most; those at places that didn't come mean nothing. They may reach past `end`.
     octets: Vec<u8, A>,
     /// How many octets would stand there at least if each read by way of another place had been made in place, as long as
-    /// there is memory for so many.
-    would_stand: usize,
+    /// there is memory for so many. Those that don't stand there would be zeros.
+    would_stand: u32,
+    /// How many reads went by way of another place.
+    reads: u32,
     /// The places that came, the first span from place 0 on.
     spans: VecDeque<Span, A>,
     /// The places whose octets were given up, as far as they may lie past the in-order point.
@@ -96,6 +98,7 @@ impl<A: Allocator> Islands<A> {
             end: 0,
             octets: Vec::new(alloc),
             would_stand: 0,
+            reads: 0,
             spans,
             gone: VecDeque::new(alloc),
         })

@@ -1,5 +1,6 @@
 use iw_ranges::{Delivery, Islands};
 use std::alloc::Global;
+use std::io::{self, Read};
 use std::test::Fail;
 
 #[test]
@@ -65,6 +66,85 @@ fn what_a_read_made_room_for_can_stand(rt: HostRuntime) -> Result<(), Fail> {
     islands.even_out(65_531);
     assert!(rt; islands.came_in_place(5, 65_531));
     assert_eq!(rt; islands.missing(), 65_536);
+    Ok(())
+}
+
+// A reader that tells of one octet, leaves another further on, and notes what stood there.
+#[derive(Drop)]
+struct Leaving {
+    at: usize,
+    stood: u8,
+}
+
+impl Read for Leaving {
+    fn read(&mut self, buf: &mut [u8]) -> io::Result<usize> {
+        if let Some(octet) = buf.get_mut(self.at) {
+            self.stood = *octet;
+            *octet = 7;
+        }
+        Ok(buf.len().min(1))
+    }
+}
+
+#[test]
+fn what_a_reader_left_stands_in_place(rt: HostRuntime) -> Result<(), Fail> {
+    for at in [2, 3, 100, 4_095, 65_535] {
+        let mut islands = Islands::new(rt.alloc())?;
+        let mut scratch = vec![in rt.alloc(); 0u8; 65_536]?;
+        let mut reader = Leaving { at, stood: 1 };
+        assert_eq!(rt;
+            islands.read_through(&mut reader, scratch.as_mut_slice())?,
+            1
+        );
+        assert_eq!(rt; reader.stood, 0);
+        assert!(rt; scratch.iter().all(|octet| *octet == 0));
+        // The octet that was left stands before the place where the next reader leaves one.
+        let mut next = Leaving {
+            at: at.saturating_sub(1),
+            stood: 1,
+        };
+        islands.read_through(&mut next, scratch.as_mut_slice())?;
+        assert_eq!(rt; next.stood, 7);
+        assert!(rt; islands.came_in_place(2, at.saturating_sub(1)));
+        assert_eq!(rt; islands.peek(at as u64), 7);
+    }
+    Ok(())
+}
+
+// Whether reading 65,536 octets by way of a scratch is the cheaper way.
+fn is_cheaper(islands: &Islands) -> bool {
+    islands.is_cheaper_through(65_536)
+}
+
+#[test]
+fn eight_reads_are_made_by_way_of_a_scratch(rt: HostRuntime) -> Result<(), Fail> {
+    let mut islands = Islands::new(rt.alloc())?;
+    let mut scratch = vec![in rt.alloc(); 0u8; 65_536]?;
+    for _ in 0..8 {
+        assert!(rt; is_cheaper(&islands));
+        islands.read_through(&mut "a".as_bytes(), scratch.as_mut_slice())?;
+    }
+    assert!(rt; !is_cheaper(&islands));
+    Ok(())
+}
+
+#[test]
+fn later_octets_are_read_in_place(rt: HostRuntime) -> Result<(), Fail> {
+    let mut islands = Islands::new(rt.alloc())?;
+    add_past(&mut islands, rt.alloc(), 16_383)?;
+    assert!(rt; is_cheaper(&islands));
+    add_past(&mut islands, rt.alloc(), 1)?;
+    assert!(rt; !is_cheaper(&islands));
+    Ok(())
+}
+
+#[test]
+fn where_octets_stand_they_are_read_in_place(rt: HostRuntime) -> Result<(), Fail> {
+    let mut islands = Islands::new(rt.alloc())?;
+    assert!(rt; islands.make_room(32_767)?);
+    assert!(rt; is_cheaper(&islands));
+    assert!(rt; islands.make_room(32_768)?);
+    assert!(rt; !is_cheaper(&islands));
     Ok(())
 }
 
