@@ -26,3 +26,4 @@ pub mod Lengths
 pub mod Passing
 pub mod InPlace
 pub mod TakenIn
+pub mod Cleared
