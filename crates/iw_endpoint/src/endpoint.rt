@@ -420,9 +420,9 @@ impl<A: Allocator> Endpoint<A> {
     /// is dropped, unless the stream has ended: such a stream still reads, and drops. The first octet that is read has the
     /// sequence number of [`Endpoint::first_number`], if nothing came before.
     ///
-    /// While no octet from a stream's 16,384th on came, it may be read by way of 65,536 octets that the endpoint has for all
-    /// its streams; what is read is copied then. The endpoint takes their memory once eight streams were read in place, does
-    /// without it where there is none, and gives it back when fewer than eight streams are left.
+    /// While no octet from a stream's 16,384th on came, up to eight of its reads may go by way of 65,536 octets that the
+    /// endpoint has for all its streams; what is read is copied then. The endpoint takes their memory once 256 streams were
+    /// read in place, does without it where there is none, and gives it back when fewer than 256 streams are left.
     ///
     /// `Refused` has the error of the reader, also if the read would block or was interrupted, or one of the kind
     /// `OutOfMemory`. Nothing was read then. An `Err` changes nothing.

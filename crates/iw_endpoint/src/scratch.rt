@@ -1,5 +1,5 @@
 //! Octets by way of which streams are read.
-ghost use Rattle.std.specs.Prelude.{◌≡◌, ◌≤◌, ◌<◌, ℕ, slice_index, vec_capacity, IfOk, OnErr};
+ghost use Rattle.std.specs.Prelude.{◌≡◌, IfOk, OnErr};
 ghost use Rattle.std.specs.Io.KnownBytes.{Keeps};
 ghost use Rattle.iw_stream.specs.Reading.{IsRead};
 
@@ -9,11 +9,13 @@ use std::alloc::Allocator;
 use std::io::{self, ErrorKind, Read};
 use std::marker::Model;
 
-/// How many streams are read without it first. So an endpoint with few streams needs no memory for it.
-pub(crate) const FEW_STREAMS: usize = 8;
+/// How many streams are read without it first. The own memory of so many, 65,536 octets each, no longer lies in a processor's
+/// caches, and to write zeros to it takes longer than to look through the scratch at a few reads. An endpoint with fewer
+/// streams needs no memory for it.
+pub(crate) const FEW_STREAMS: usize = 256;
 
 /// What comes at the reads of young streams is read to here first ([`Stream::read_through`]). All octets are zeros between
-/// two reads, unless a reader wrote more than it told. The memory is taken when it is first needed.
+/// two reads, so that no reader finds here what was read at another stream. The memory is taken when it is first needed.
 #[derive(Drop)]
 pub(crate) struct Scratch<A: Allocator> {
     octets: Vec<u8, A>,
@@ -24,22 +26,14 @@ pub(crate) struct Scratch<A: Allocator> {
 }
 
 impl<A: Allocator> Model for Scratch<A> {
-    ghost use Rattle.std.specs.Prelude.{ℕ, ◌≤◌, vec_capacity};
+    ghost use Rattle.std.specs.Prelude.{ℕ, ◌≡◌, ◌≤◌, vec_capacity, slice_index};
 
     // For how many octets there is memory.
     ghost Value = { ℕ };
 
     ghost view = { λ s. vec_capacity s.octets };
 
-    ghost invariant = { λ s. vec_capacity s.octets ≤ 65536 };
-}
-
-// Writes zeros over the first `n` octets.
-fn wipe(octets: &mut [u8], n: usize)
-    ensures { (k : ℕ) → k < n → slice_index octets.new k ≡ 0 }
-{
-    let (front, _) = octets.split_at_mut(n.min(octets.len()));
-    front.fill(0);
+    ghost invariant = { λ s. (vec_capacity s.octets ≤ 65536) × ((k : ℕ) → slice_index s.octets.items k ≡ 0) };
 }
 
 impl<A: Allocator> Scratch<A> {
@@ -86,10 +80,6 @@ impl<A: Allocator> Scratch<A> {
             return stream.read_from(from);
         }
         match stream.read_through(from, self.octets.as_mut_slice()) {
-            Ok(Intake::Came(got)) => {
-                wipe(self.octets.as_mut_slice(), got);
-                Ok(Intake::Came(got))
-            }
             Ok(intake) => Ok(intake),
             Err(error) => {
                 if error.kind() == ErrorKind::OutOfMemory {

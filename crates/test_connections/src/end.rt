@@ -5,10 +5,11 @@ use iw_connection::{
     Endpoint, Filled, Intake, Octets, Step, StreamNumber, close, fill, next, take,
 };
 use iw_endpoint::{
-    Config, Establishment, Message, PrivateData, ReadRequest, Request, Rights, Role, Stag,
+    CallRefusal, Config, Establishment, Message, PrivateData, ReadRequest, Request, Rights, Role,
+    Stag,
 };
 use std::alloc::Global;
-use std::io::Read;
+use std::io::{ErrorKind, Read};
 use std::ptr::null_mut;
 use std::test::Fail;
 
@@ -67,16 +68,20 @@ impl End {
 
     /// Opens so many other streams, and reads one octet at each.
     pub(crate) fn read_elsewhere(&mut self, streams: u32) -> Result<(), Fail> {
-        for number in 1..streams.saturating_add(1) {
-            self.endpoint.open(number, DOMAIN, Role::Preset, config())?;
+        for _ in 0..streams {
+            let number = self.endpoint.open_next(DOMAIN, Role::Preset, config())?;
             take(&mut self.endpoint, number, &mut [0u8].as_slice())?;
         }
         Ok(())
     }
 
-    /// Reads, and does no step.
-    pub(crate) fn take<S: Read>(&mut self, socket: &mut S) -> Result<Intake, Fail> {
-        Ok(take(&mut self.endpoint, STREAM, socket)?)
+    /// Reads, and does no step. If the read failed, tells the kind of the error.
+    pub(crate) fn take<S: Read>(&mut self, socket: &mut S) -> Result<Intake, ErrorKind> {
+        match take(&mut self.endpoint, STREAM, socket) {
+            Ok(intake) => Ok(intake),
+            Err(CallRefusal::Refused(error)) => Err(error.kind()),
+            Err(CallRefusal::NoSuchStream) => Err(ErrorKind::NotFound),
+        }
     }
 
     /// Counts octets as come, and tells whether it did.

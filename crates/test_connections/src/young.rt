@@ -1,17 +1,18 @@
 //! A stream whose first octets are read by way of its endpoint's scratch answers as one that is read in place, whatever calls
-//! are made by turns: also calls that a program should not make, such as counting octets for which no place was lent.
+//! are made by turns: also calls that a program should not make, such as counting octets for which no place was lent, and
+//! readers that look at what stands where they are to write, or write more than they tell.
 
 use crate::end::End;
 use crate::reads::{LENGTH, Written, region};
 use iw_connection::Intake;
 use iw_endpoint::Role;
 use std::alloc::Global;
-use std::io::{self, Read};
+use std::io::{self, ErrorKind, Read};
 use std::test::Fail;
 use test_support::Halting;
 
 /// After reads at so many streams an endpoint reads by way of its scratch.
-const STREAMS: u32 = 8;
+const STREAMS: u32 = 256;
 
 /// Octets of one call: few; about what a young stream may read by way of the scratch; about what one read takes at most.
 const SIZES: [usize; 20] = [
@@ -23,6 +24,8 @@ const SIZES: [usize; 20] = [
 #[derive(Drop)]
 struct Numbers {
     state: u32,
+    // Whether the sizes are below 512, so that more than eight reads come before the 16,384th octet.
+    are_small: bool,
 }
 
 impl Numbers {
@@ -36,25 +39,52 @@ impl Numbers {
     }
 
     fn size(&mut self) -> usize {
-        let near = SIZES.get(self.next(20) as usize).copied().unwrap_or(0);
+        let end = if self.are_small { 6 } else { 20 };
+        let near = SIZES.get(self.next(end) as usize).copied().unwrap_or(0);
         let less = self.next(3).saturating_mul(self.next(40));
         near.saturating_sub(less as usize)
     }
 }
 
-// A reader that notes how often it was called, and for how many octets.
+// A reader that notes how often it was called, for how many octets, and what stood there. It may leave octets past those
+// that it tells, and may fail then.
 #[derive(Drop)]
 struct Noting<T> {
     inner: T,
     calls: usize,
     asked: usize,
+    stood: u32,
+    // How many octets it leaves, and how far past those that it tells.
+    left: usize,
+    past: usize,
+    fails: bool,
+    has_left: bool,
+}
+
+// A number that follows from the octets.
+fn sum(octets: &[u8]) -> u32 {
+    let mut sum = 0u32;
+    for octet in octets {
+        sum = sum.wrapping_mul(31).wrapping_add(*octet as u32);
+    }
+    sum
 }
 
 impl<T: Read> Read for Noting<T> {
     fn read(&mut self, buf: &mut [u8]) -> io::Result<usize> {
         self.calls = self.calls.wrapping_add(1);
         self.asked = buf.len();
-        self.inner.read(buf)
+        self.stood = sum(buf);
+        let got = if self.fails { 0 } else { self.inner.read(buf)? };
+        let from = got.saturating_add(self.past).min(buf.len());
+        let (_, rest) = buf.split_at_mut(from);
+        let (front, _) = rest.split_at_mut(self.left.min(rest.len()));
+        front.fill(5);
+        self.has_left = !front.is_empty();
+        if self.fails {
+            return Err(ErrorKind::WouldBlock.into());
+        }
+        Ok(got)
     }
 }
 
@@ -66,28 +96,41 @@ struct Answers {
     is_lent: bool,
     // How often octets were counted at a stream that ran, and no place was lent for them.
     counted: usize,
+    // How often a reader left octets.
+    left: usize,
 }
 
-// Reads at most so many octets.
+// Reads at most so many octets. One read in four leaves octets past those that it tells, and one in eight fails.
 fn read(
     end: &mut End,
+    numbers: &mut Numbers,
     rest: &mut &[u8],
     most: usize,
     answers: &mut Answers,
 ) -> Result<usize, Fail> {
+    let leaves = numbers.next(4) == 0;
     let mut reader = Noting {
         inner: Halting::new(rest, most),
         calls: 0,
         asked: 0,
+        stood: 0,
+        left: if leaves { numbers.size() } else { 0 },
+        past: numbers.size(),
+        fails: numbers.next(8) == 0,
+        has_left: false,
     };
-    let intake = end.take(&mut reader)?;
+    let taken = end.take(&mut reader);
     answers.is_lent = false;
+    answers.left = answers.left.saturating_add(reader.has_left as usize);
     answers.numbers.push(reader.calls)?;
     answers.numbers.push(reader.asked)?;
-    Ok(match intake {
-        Intake::Came(got) => got,
-        Intake::Full => 100_000,
-        Intake::End => 100_001,
+    answers.numbers.push(reader.stood as usize)?;
+    Ok(match taken {
+        Ok(Intake::Came(got)) => got,
+        Ok(Intake::Full) => 100_000,
+        Ok(Intake::End) => 100_001,
+        Err(ErrorKind::WouldBlock) => 100_003,
+        Err(_) => 100_004,
     })
 }
 
@@ -109,7 +152,7 @@ fn call(
 ) -> Result<(), Fail> {
     let size = numbers.size();
     let answer = match numbers.next(8) {
-        0..4 => read(end, rest, size, answers)?,
+        0..4 => read(end, numbers, rest, size, answers)?,
         4 => came(end, size, answers)?,
         5 => {
             answers.is_lent = true;
@@ -143,12 +186,16 @@ fn end(alloc: Global, streams: u32) -> Result<End, Fail> {
 
 // Makes the calls of a seed.
 fn calls(alloc: Global, end: &mut End, wire: &[u8], seed: u32) -> Result<Answers, Fail> {
-    let mut numbers = Numbers { state: seed };
+    let mut numbers = Numbers {
+        state: seed,
+        are_small: seed % 3 == 0,
+    };
     let mut rest = wire;
     let mut answers = Answers {
         numbers: Vec::new(alloc),
         is_lent: false,
         counted: 0,
+        left: 0,
     };
     for _ in 0..24 {
         call(end, &mut numbers, &mut rest, &mut answers)?;
@@ -162,6 +209,7 @@ fn calls(alloc: Global, end: &mut End, wire: &[u8], seed: u32) -> Result<Answers
 fn young_streams_answer_as_others_do(rt: HostRuntime) -> Result<(), Fail> {
     let written = Written::new(rt.alloc(), false)?;
     let mut counted = 0usize;
+    let mut left = 0usize;
     for seed in 0..300 {
         let mut one = end(rt.alloc(), 0)?;
         let in_place = calls(rt.alloc(), &mut one, written.wire.as_slice(), seed)?;
@@ -171,8 +219,10 @@ fn young_streams_answer_as_others_do(rt: HostRuntime) -> Result<(), Fail> {
         assert!(rt; one.seen == other.seen);
         assert!(rt; one.region(region()) == other.region(region()));
         counted = counted.saturating_add(by_way.counted);
+        left = left.saturating_add(by_way.left);
     }
     assert!(rt; counted > 20);
+    assert!(rt; left > 200);
     Ok(())
 }
 
@@ -180,7 +230,9 @@ fn young_streams_answer_as_others_do(rt: HostRuntime) -> Result<(), Fail> {
 fn counts_as_many(alloc: Global, streams: u32, k: usize) -> Result<bool, Fail> {
     let mut end = end(alloc, streams)?;
     let octets = [0u8; 64];
-    end.take(&mut Halting::new(&mut octets.as_slice(), k))?;
+    if end.take(&mut Halting::new(&mut octets.as_slice(), k)) != Ok(Intake::Came(k)) {
+        return Ok(false);
+    }
     Ok(!end.came(65_537usize.saturating_sub(k))? && end.came(65_536usize.saturating_sub(k))?)
 }
 
