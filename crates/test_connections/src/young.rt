@@ -4,6 +4,7 @@
 
 use crate::end::End;
 use crate::reads::{LENGTH, Written, region};
+use bytes::Bytes;
 use iw_connection::Intake;
 use iw_endpoint::Role;
 use std::alloc::Global;
@@ -61,6 +62,22 @@ struct Noting<T> {
     has_left: bool,
 }
 
+impl<T> Noting<T> {
+    // It leaves nothing, and does not fail.
+    fn new(inner: T) -> Noting<T> {
+        Noting {
+            inner,
+            calls: 0,
+            asked: 0,
+            stood: 0,
+            left: 0,
+            past: 0,
+            fails: false,
+            has_left: false,
+        }
+    }
+}
+
 // A number that follows from the octets.
 fn sum(octets: &[u8]) -> u32 {
     let mut sum = 0u32;
@@ -109,16 +126,10 @@ fn read(
     answers: &mut Answers,
 ) -> Result<usize, Fail> {
     let leaves = numbers.next(4) == 0;
-    let mut reader = Noting {
-        inner: Halting::new(rest, most),
-        calls: 0,
-        asked: 0,
-        stood: 0,
-        left: if leaves { numbers.size() } else { 0 },
-        past: numbers.size(),
-        fails: numbers.next(8) == 0,
-        has_left: false,
-    };
+    let mut reader = Noting::new(Halting::new(rest, most));
+    reader.left = if leaves { numbers.size() } else { 0 };
+    reader.past = numbers.size();
+    reader.fails = numbers.next(8) == 0;
     let taken = end.take(&mut reader);
     answers.is_lent = false;
     answers.left = answers.left.saturating_add(reader.has_left as usize);
@@ -223,6 +234,47 @@ fn young_streams_answer_as_others_do(rt: HostRuntime) -> Result<(), Fail> {
     }
     assert!(rt; counted > 20);
     assert!(rt; left > 200);
+    Ok(())
+}
+
+// The frames of six Writes.
+fn frames(alloc: Global) -> Result<Vec<Vec<u8>>, Fail> {
+    let mut end = End::open(alloc, Role::Preset)?;
+    let mut frames = Vec::new(alloc);
+    for number in 1..7u8 {
+        let mut frame = Vec::new(alloc);
+        end.write(region(), Bytes::copy_from_slice(alloc, &[number; 100])?)?;
+        end.is_writable(&mut frame, 65_536)?;
+        frames.push(frame)?;
+    }
+    Ok(frames)
+}
+
+// Numbers that follow from what stood where each frame was read to. Each frame has its turn before the next is read.
+fn shown(alloc: Global, streams: u32, frames: &Vec<Vec<u8>>) -> Result<Vec<u32>, Fail> {
+    let mut end = end(alloc, streams)?;
+    let mut shown = Vec::new(alloc);
+    for frame in frames {
+        let mut rest = frame.as_slice();
+        let mut reader = Noting::new(Halting::new(&mut rest, frame.len()));
+        if end.take(&mut reader) != Ok(Intake::Came(frame.len())) {
+            break;
+        }
+        end.act()?;
+        shown.push(reader.stood)?;
+    }
+    Ok(shown)
+}
+
+#[test]
+fn readers_are_shown_what_stands(rt: HostRuntime) -> Result<(), Fail> {
+    let frames = frames(rt.alloc())?;
+    let in_place = shown(rt.alloc(), 0, &frames)?;
+    let by_way = shown(rt.alloc(), STREAMS, &frames)?;
+    assert!(rt; in_place == by_way);
+    // The frame before stands there.
+    let some = in_place.iter().filter(|stood| **stood != 0).count();
+    assert_eq!(rt; some, 5);
     Ok(())
 }
 
