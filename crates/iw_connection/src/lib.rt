@@ -2,7 +2,7 @@
 //!
 //! The application
 //!
-//! 1. when the connection is readable, calls [`take`], which reads once, to where the octets are to stand, and then
+//! 1. when the connection is readable, calls [`take`], which reads once, right to where the octets are to stand, and then
 //!    [`next`] until it answers [`Step::Idle`]. Each other answer is a step that the application has to act on: it accepts
 //!    or rejects the peer's Request, uses a message that was received, or takes note of what is done or has ended;
 //! 2. when the connection is writable, calls [`fill`] until it answers [`Filled::All`], writes out what was appended, and

@@ -8,7 +8,7 @@ use iw_endpoint::{CallRefusal, Endpoint, Intake, NoSuchStream};
 use std::alloc::Allocator;
 use std::io::{self, Read};
 
-/// Reads once from a stream's connection, to where the octets are to stand ([`Endpoint::read_from`]). What was read is
+/// Reads once from a stream's connection, right to where the octets are to stand ([`Endpoint::read_from`]). What was read is
 /// delivered, past all that came before, and none of it is dropped unless the stream has ended.
 ///
 /// `Refused` has the error of the reader, also if the read would block or was interrupted, or one of the kind

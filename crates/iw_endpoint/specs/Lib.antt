@@ -1,6 +1,5 @@
 pub mod Numbers
 pub mod Inside
-pub mod Last
 pub mod Endpoint
 pub mod Lending
 pub mod Places

@@ -24,7 +24,6 @@ use crate::closed::Closed;
 use crate::pools::Pools;
 use crate::refusal::{CallRefusal, NoSuchStream, PoolRefusal, ShareRefusal, TakeRefusal};
 use crate::scrap::Scrap;
-use crate::scratch::Scratch;
 use crate::streams::Streams;
 use bytes::Bytes;
 use iw_memory::{
@@ -50,8 +49,6 @@ pub struct Endpoint<A: Allocator = Global> {
     closed: Closed,
     // What is lent for streams that have ended.
     scrap: Scrap<A>,
-    // What young streams are read by way of.
-    scratch: Scratch<A>,
 }
 
 impl<A: Allocator> Model for Endpoint<A> {
@@ -97,7 +94,6 @@ impl<A: Allocator> Endpoint<A> {
             streams: Streams::new(alloc),
             closed: Closed::new(),
             scrap: Scrap::new(alloc),
-            scratch: Scratch::new(alloc),
         }
     }
 
@@ -415,14 +411,10 @@ impl<A: Allocator> Endpoint<A> {
         }
     }
 
-    /// Reads once from a stream's connection, mostly right to where the octets are to stand: at most 65,536 octets, and no
-    /// more than the window has room for. It is one delivery of what was read, past the last octet that came, and none of it
-    /// is dropped, unless the stream has ended: such a stream still reads, and drops. The first octet that is read has the
-    /// sequence number of [`Endpoint::first_number`], if nothing came before.
-    ///
-    /// While no octet from a stream's 16,384th on came, up to eight of its reads may go by way of 65,536 octets that the
-    /// endpoint has for all its streams; what is read is copied then. The endpoint takes their memory once 256 streams were
-    /// read in place, does without it where there is none, and gives it back when fewer than 256 streams are left.
+    /// Reads once from a stream's connection, right to where the octets are to stand: at most 65,536 octets, and no more than
+    /// the window has room for. It is one delivery of what was read, past the last octet that came, and none of it is dropped,
+    /// unless the stream has ended: such a stream still reads, and drops. The first octet that is read has the sequence number
+    /// of [`Endpoint::first_number`], if nothing came before.
     ///
     /// `Refused` has the error of the reader, also if the read would block or was interrupted, or one of the kind
     /// `OutOfMemory`. Nothing was read then. An `Err` changes nothing.
@@ -436,7 +428,7 @@ impl<A: Allocator> Endpoint<A> {
         ensures err { OnErr result ((self.new ≡ self.old) × Keeps (R.remaining from.old) (R.remaining from.new)) }
     {
         match self.streams.get_mut(number) {
-            Some(stream) => match self.scratch.read(number, stream, from) {
+            Some(stream) => match stream.read_from(from) {
                 Ok(intake) => Ok(intake),
                 Err(error) => Err(CallRefusal::Refused(error)),
             },

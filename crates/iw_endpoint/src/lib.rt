@@ -11,8 +11,8 @@
 //!    `take_shared`);
 //! 3. when the socket is writable, calls `emit` until it answers [`Emission::Nothing`], and writes out what was
 //!    appended;
-//! 4. when the socket is readable, reads from it, mostly right to where the octets are to stand (`read_from`; with a call of
-//!    its own, as C does, `lend_place` and `came`), or hands in octets that came apart from a socket's order with their sequence
+//! 4. when the socket is readable, reads from it right to where the octets are to stand (`read_from`; with a call of its
+//!    own, as C does, `lend_place` and `came`), or hands in octets that came apart from a socket's order with their sequence
 //!    number (`deliver`), then calls `work` until it answers [`Step::Idle`]. Each call does one step and returns what it did.
 //!    After [`Step::Asked`] the application calls `accept` or `reject`, then `work` again. Afterwards there may be more to
 //!    emit.
@@ -91,9 +91,7 @@ mod laws;
 mod pools;
 mod refusal;
 mod scrap;
-mod scratch;
 mod streams;
-mod zeros;
 
 pub use endpoint::Endpoint;
 pub use iw_memory::{

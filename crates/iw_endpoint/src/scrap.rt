@@ -1,9 +1,8 @@
 //! The place that is lent for streams that have ended. What comes there is dropped.
-ghost use Rattle.std.specs.Prelude.{◌≡◌, ◌≤◌, min, vec_capacity, IfOk, IfErr, OnErr};
+ghost use Rattle.std.specs.Prelude.{◌≡◌, ◌≤◌, ◌<◌, min, vec_len, vec_capacity, IfOk, IfErr, OnOk, OnErr};
 
 use crate::refusal::PlaceRefusal;
-use crate::zeros::fill;
-use std::alloc::Allocator;
+use std::alloc::{AllocError, Allocator};
 use std::marker::Model;
 
 /// How many octets are lent at most.
@@ -26,6 +25,20 @@ impl<A: Allocator> Model for Scrap<A> {
     ghost invariant = { λ s. vec_capacity s.octets ≤ 4096 };
 }
 
+// Makes 4,096 octets of none or of as many. An `Err` changes nothing.
+fn fill<A: Allocator>(octets: &mut Vec<u8, A>) -> Result<(), AllocError>
+    requires { vec_capacity octets.old ≤ 4096 }
+    ensures len { OnOk result (vec_len octets.new ≡ 4096) }
+    ensures memory { vec_capacity octets.new ≤ 4096 }
+    ensures err { OnErr result (vec_capacity octets.new ≡ vec_capacity octets.old) }
+{
+    octets.reserve_exact(SCRAP - octets.len())?;
+    'zeros: while octets.len() < SCRAP {
+        octets.push_reserved(0);
+    }
+    Ok(())
+}
+
 impl<A: Allocator> Scrap<A> {
     /// No memory was taken.
     pub(crate) fn new(alloc: A) -> Scrap<A>
@@ -45,7 +58,7 @@ impl<A: Allocator> Scrap<A> {
         ensures memory { self.new ≤ 4096 }
         ensures err { OnErr result (self.new ≡ self.old) }
     {
-        match fill(&mut self.octets, SCRAP) {
+        match fill(&mut self.octets) {
             Ok(()) => {
                 *at = self.octets.as_mut_ptr();
                 Ok(want.min(SCRAP))

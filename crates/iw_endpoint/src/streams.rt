@@ -4,7 +4,6 @@ ghost use Rattle.std.specs.Borrow.{sem};
 ghost use Rattle.std.specs.HashMap as hash;
 ghost use Rattle.slab.specs.Slab as slab;
 ghost use Rattle.iw_endpoint.specs.Inside.{Stays, IsLaid};
-ghost use Rattle.iw_endpoint.specs.Last.{IsFound};
 ghost use Rattle.iw_endpoint.specs.Numbers.{put_at};
 
 use iw_stream::Stream;
@@ -70,38 +69,11 @@ where
     Ok(())
 }
 
-/// The place of the stream of a number.
-#[derive(Clone, Copy)]
-pub(crate) struct Found {
-    number: u32,
-    place: usize,
-}
-
-// The place that is given for a number. That which was found last needs no look-up.
-#[inline(always)]
-fn place_in<A: Allocator>(
-    keys: &HashMap<u32, usize, BuildHasherDefault<FoldHasher>, A>,
-    last: Option<Found>,
-    number: u32,
-) -> Option<usize>
-    requires { IsFound (hash.get nat_eq keys.now) last }
-    ensures { result ≡ hash.get nat_eq keys.now number }
-{
-    if let Some(found) = last {
-        if found.number == number {
-            return Some(found.place);
-        }
-    }
-    keys.get(&number).copied()
-}
-
 /// The streams, by number. Each takes memory when it is opened; none is taken before.
 #[derive(Drop)]
 pub(crate) struct Streams<A: Allocator = Global> {
     // The place of the stream that was opened under a number.
     keys: HashMap<u32, usize, BuildHasherDefault<FoldHasher>, A>,
-    // Which was found last for changing the stream: mostly the next call is for the same.
-    last: Option<Found>,
     places: Slab<Place<A>, A>,
     // The next number that is given.
     next: u64,
@@ -116,12 +88,11 @@ impl<A: Allocator> Model for Streams<A> {
 
     ghost Value = { List (Option StreamState) };
 
-    ghost use Rattle.iw_endpoint.specs.Inside.{listed};
-    ghost use Rattle.iw_endpoint.specs.Last.{KeepsLast};
+    ghost use Rattle.iw_endpoint.specs.Inside.{listed, Keeps};
 
     ghost view = { λ s. listed (hash.get nat_eq s.keys) (slab.get s.places) s.next };
 
-    ghost invariant = { λ s. KeepsLast (hash.get nat_eq s.keys) (slab.get s.places) s.next s.last };
+    ghost invariant = { λ s. Keeps (hash.get nat_eq s.keys) (slab.get s.places) s.next };
 }
 
 impl<A: Allocator> Streams<A> {
@@ -136,7 +107,6 @@ impl<A: Allocator> Streams<A> {
     {
         Streams {
             keys: HashMap::new(alloc),
-            last: None,
             places: Slab::new(alloc),
             next: STREAM_NUMBERS as u64,
             alloc,
@@ -173,7 +143,7 @@ impl<A: Allocator> Streams<A> {
     pub(crate) fn get(&self, number: u32) -> Option<&Stream<A>>
         ensures { option_copied result ≡ slice_index_or self.now number None }
     {
-        let place = place_in(&self.keys, self.last, number)?;
+        let place = *self.keys.get(&number)?;
         Some(self.places.get(place)?.get())
     }
 
@@ -182,8 +152,7 @@ impl<A: Allocator> Streams<A> {
         ensures* lends { sem 𝓛 (LendsStream A.row A.Allocator self.entry number result) }
         ensures found { option_copied_mut result ≡ slice_index_or self.old number None }
     {
-        let place = place_in(&self.keys, self.last, number)?;
-        self.last = Some(Found { number, place });
+        let place = *self.keys.get(&number)?;
         Some(self.places.get_mut(place)?.get_mut())
     }
 
@@ -196,7 +165,6 @@ impl<A: Allocator> Streams<A> {
         ensures ok { OnOk result (self.new ≡ put_at self.old number stream) }
         ensures err { OnErr result (self.new ≡ self.old) }
     {
-        self.last = None;
         lay(&mut self.keys, &mut self.places, self.alloc, number, stream)?;
         self.next = self.next.max(number as u64 + 1);
         Ok(())
@@ -206,14 +174,8 @@ impl<A: Allocator> Streams<A> {
     pub(crate) fn remove(&mut self, number: u32)
         ensures { self.new ≡ slice_set self.old number None }
     {
-        self.last = None;
         if let Some(place) = self.keys.remove(&number) {
             self.places.remove(place);
         }
-    }
-
-    /// How many streams there are.
-    pub(crate) fn len(&self) -> usize {
-        self.places.len()
     }
 }

@@ -68,7 +68,7 @@ impl<R: Read> Counted<R> {
         Err(ReadFault::TooMany)
     }
 
-    /// Reads once from a stream's connection, mostly right to where the octets are to stand ([`iw_connection::take`]). An
+    /// Reads once from a stream's connection, right to where the octets are to stand ([`iw_connection::take`]). An
     /// interrupted read is made again, and counts. `Failed` also means out of memory, or that the endpoint has no such
     /// stream; `TooMany` comes after 1,000,000 reads. An `Err` reads nothing, and leaves the endpoint as it was.
     pub(crate) fn take_to(

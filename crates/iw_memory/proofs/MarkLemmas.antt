@@ -16,7 +16,7 @@ mark-full i small =
     ap (λ w. bit_at w (i % 64)) (get_or-replicate 16 (i / 64) 18446744073709551615 0 (omega arith))
     ∙ bit_at_ones 64 (i % 64) (omega arith)
 
--- a word that has no free slot
+-- whether a word has a free slot
 abbrev has_free : ℕ → Bool
 has_free word = not (word == 0)
 

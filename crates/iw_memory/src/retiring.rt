@@ -30,7 +30,7 @@ fn retire_at<A: Allocator>(regions: &mut Slab<Stored<A>, A>, at: usize, stream: 
     }
 }
 
-/// Whether a region was limited to a stream, with one more that is limited so.
+/// Whether a region was ever limited to a stream, once one with this bound is registered too.
 #[inline(always)]
 pub(crate) fn is_limited(limited: bool, bound: Option<u32>) -> bool
     ensures { result ≡ limited || is_some bound }

@@ -200,14 +200,20 @@ fn sixteens_added(remainder: u32, octets: &[u8]) -> u32
     words_added(so_far, &octets[16 * steps + 96..])
 }
 
-/// The remainder after any octets. Of a long run, all but the last 290 are folded away first.
+/// From so many octets on, sixteen are folded away at a time: at least once, before the last 96.
+const MEDIUM: usize = 96 + 16;
+
+/// From so many octets on, all but the last 290 are folded away first: in a shorter run that takes more time than it saves.
+const LONG: usize = 800;
+
+/// The remainder after any octets.
 fn added(remainder: u32, octets: &[u8]) -> u32
     ensures { result ≡ after_octets remainder octets.now }
 {
-    if octets.len() < 112 {
+    if octets.len() < MEDIUM {
         return run_added(remainder, octets);
     }
-    if octets.len() < 800 {
+    if octets.len() < LONG {
         return sixteens_added(remainder, octets);
     }
     sixteens_added(0, &folded(remainder, octets))

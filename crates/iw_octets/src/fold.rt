@@ -14,8 +14,12 @@ const REACH: usize = 136;
 /// The last octets before a block, the block's, and room for zeros behind them.
 const WINDOW: usize = BLOCK + SPAN + REACH;
 
-/// At most so many octets are folded at once in a window that takes less time to clear.
-const SHORT_BLOCK: usize = 1536;
+/// So many octets of a block are folded a turn, by a loop of fixed length.
+const PIECE: usize = 64;
+
+/// At most so many octets are folded at once in a window that takes less time to clear. Whole pieces, and a frame that one
+/// Ethernet segment carries, at most 1,460 octets, fits; the windows of less that were timed gained nothing more.
+const SHORT_BLOCK: usize = 24 * PIECE;
 
 /// A window for a block that is short.
 const SHORT_WINDOW: usize = SHORT_BLOCK + SPAN + REACH;
@@ -36,7 +40,7 @@ fn with_owed(octet: u8, window: &[u8], at: usize) -> u8
     octet ^ (window[at] ^ window[at + 32] ^ window[at + 107] ^ window[at + 113] ^ window[at + 136])
 }
 
-/// Folds 64 octets of a block away, from a place on.
+/// Folds a piece of a block away, from a place on.
 #[inline(always)]
 fn fold_piece(window: &mut [u8], block: &[u8], at: usize)
     requires block { at + 64 ≤ length block.now }
@@ -44,7 +48,7 @@ fn fold_piece(window: &mut [u8], block: &[u8], at: usize)
     ensures folds { (first : List ℕ) → Folds first (take at block.now) (take 290 (drop at window.old))
         → Folds first (take (at + 64) block.now) (take 290 (drop (at + 64) window.new)) }
 {
-    for i in 0..64 {
+    for i in 0..PIECE {
         let octet = with_owed(block[at + i], window, at + i);
         window[at + i + SPAN] = octet;
     }
@@ -55,11 +59,11 @@ fn fold(window: &mut [u8], block: &[u8])
     requires { length block.now + 290 ≤ length window.old }
     ensures { Folds (take 290 window.old) block.now (take 290 (drop (length block.now) window.new)) }
 {
-    let pieces = block.len() / 64;
+    let pieces = block.len() / PIECE;
     for piece in 0..pieces {
-        fold_piece(window, block, 64 * piece);
+        fold_piece(window, block, PIECE * piece);
     }
-    for i in 64 * pieces..block.len() {
+    for i in PIECE * pieces..block.len() {
         let octet = with_owed(block[i], window, i);
         window[i + SPAN] = octet;
     }

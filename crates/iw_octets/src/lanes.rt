@@ -1,5 +1,5 @@
 //! Octets are folded away sixteen at a time: an octet stands for what the two look-ups of its halves give 16, 32, 64 and
-//! 96 octets further on.
+//! 96 octets further on. `all_tell` of proofs/Sixteens.antt computes the tables below for each octet.
 ghost use Rattle.std.specs.Prelude.{◌≡◌, ◌<◌, ◌≤◌, ◌+◌, ◌*◌, ◌++◌, ℕ, map, length, take, replicate, slice_index};
 ghost use Rattle.std.specs.Int.{w32, to_le_bytes};
 ghost use Rattle.iw_octets.specs.Crc.{after_octets};

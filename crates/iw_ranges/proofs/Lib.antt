@@ -12,5 +12,4 @@ pub mod Blocks
 pub mod Left
 pub mod NearPlaces
 pub mod InPlace
-pub mod ReadThrough
 pub mod Empties

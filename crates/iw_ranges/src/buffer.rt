@@ -21,7 +21,7 @@ pub(crate) const MAX_IDLE: usize = 131_072;
 const MAX_MOVED: usize = 4;
 
 /// Writes the octets over those that stand at `at`.
-pub(crate) fn write_at(buffer: &mut [u8], at: usize, octets: &[u8])
+fn write_at(buffer: &mut [u8], at: usize, octets: &[u8])
     requires { at + length octets.now ≤ length buffer.old }
     ensures { (i : ℕ) → i < length buffer.old → slice_index buffer.new i
         ≡ (if nat_le at i && nat_lt i (at + length octets.now) then slice_index octets.now (i - at)
@@ -109,21 +109,6 @@ fn extend_to<A: Allocator>(buffer: &mut Vec<u8, A>, len: usize)
     replace_with(buffer, len, extended)
 }
 
-/// Makes memory for `len` octets in all, some of them past what stands in the buffer. An `Err` changes nothing.
-fn reserve<A: Allocator>(buffer: &mut Vec<u8, A>, len: usize) -> Result<(), AllocError>
-    requires longer { vec_len buffer.old ≤ len }
-    requires held { len ≤ 327680 }
-    ensures items { buffer.new.items ≡ buffer.old.items }
-    ensures room { OnOk result (len ≤ vec_capacity buffer.new) }
-    ensures err_memory { OnErr result (vec_capacity buffer.new ≡ vec_capacity buffer.old) }
-    ensures memory { vec_capacity buffer.new ≤ max (vec_capacity buffer.old) 327680 }
-    ensures idle { len ≤ 131072 → vec_capacity buffer.new ≤ max (vec_capacity buffer.old) 131072 }
-{
-    let room = room_for(buffer.capacity(), len);
-    buffer.reserve_exact(room - buffer.len())?;
-    Ok(())
-}
-
 /// Makes the buffer at least `len` octets long, with zeros past what stands in it. An `Err` changes nothing.
 pub(crate) fn grow<A: Allocator>(buffer: &mut Vec<u8, A>, len: usize) -> Result<(), AllocError>
     requires held { len ≤ 327680 }
@@ -137,7 +122,8 @@ pub(crate) fn grow<A: Allocator>(buffer: &mut Vec<u8, A>, len: usize) -> Result<
     if len <= buffer.len() {
         return Ok(());
     }
-    reserve(buffer, len)?;
+    let room = room_for(buffer.capacity(), len);
+    buffer.reserve_exact(room - buffer.len())?;
     extend_to(buffer, len);
     Ok(())
 }
@@ -165,7 +151,7 @@ fn append<A: Allocator>(buffer: &mut Vec<u8, A>, at: usize, octets: &[u8]) -> Re
 
 /// Writes the octets over what stands from index `at` on, and appends those that reach past it. There is room for them.
 #[inline(always)]
-pub(crate) fn lay<A: Allocator>(buffer: &mut Vec<u8, A>, at: usize, octets: &[u8])
+fn lay<A: Allocator>(buffer: &mut Vec<u8, A>, at: usize, octets: &[u8])
     requires within { at ≤ vec_len buffer.old }
     requires room { at + length octets.now ≤ vec_capacity buffer.old }
     ensures octets { (i : ℕ) → slice_index buffer.new.items i
@@ -289,7 +275,7 @@ fn give_back<A: Allocator>(octets: &mut Vec<u8, A>)
 
 /// Lets the buffer, which begins at place `base`, begin at place `to` where nothing came past it. What stands in it
 /// stays there, and means nothing.
-#[inline(always)]
+#[inline]
 pub(crate) fn let_go<A: Allocator>(octets: &mut Vec<u8, A>, base: &mut u64, end: u64, to: u64)
     requires low { base.old ≤ to }
     requires high { to ≤ end }
@@ -369,38 +355,4 @@ pub(crate) fn shorten<A: Allocator>(
         move_to_front(octets, passed, (end - *base) as usize);
         *base = floor;
     }
-}
-
-/// Makes memory for the `n` octets past place `end`, as [`shorten`] and [`grow`] do, but writes none of them. An `Err`
-/// leaves what stands before place `end` as it was.
-pub(crate) fn reserve_past<A: Allocator>(
-    octets: &mut Vec<u8, A>,
-    base: &mut u64,
-    floor: u64,
-    end: u64,
-    n: usize,
-) -> Result<(), AllocError>
-    requires low { base.old ≤ floor }
-    requires high { floor ≤ end }
-    requires within { end ≤ base.old + vec_len octets.old }
-    requires near { end + n ≤ floor + 262144 }
-    requires small { floor ≤ 2 ^ 63 }
-    requires idle { floor ≡ end → n ≤ 131072 }
-    ensures octets { HasSameOctets base.old octets.old.items base.new octets.new.items end }
-    ensures within { end ≤ base.new + vec_len octets.new }
-    ensures len { vec_len octets.new ≤ vec_len octets.old }
-    ensures high { base.new ≤ floor }
-    ensures held { end + n ≤ base.new + 327680 }
-    ensures room { OnOk result (end + n ≤ base.new + vec_capacity octets.new) }
-    ensures idle { floor ≡ end → vec_capacity octets.new ≤ 131072 }
-    ensures memory { vec_capacity octets.new ≤ max (vec_capacity octets.old) 327680 }
-{
-    let_go(octets, base, end, floor);
-    let to = end + n as u64;
-    shorten(octets, base, floor, end, to);
-    let len = (to - *base) as usize;
-    if len <= octets.len() {
-        return Ok(());
-    }
-    reserve(octets, len)
 }

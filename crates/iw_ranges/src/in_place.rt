@@ -7,7 +7,6 @@ ghost use Rattle.iw_ranges.specs.Lending.{LendsAhead};
 
 use crate::buffer::{MAX_IDLE, grow, let_go, shorten};
 use crate::spans::{end_of_first, lengthen_last};
-use crate::through::still_stand;
 use crate::{Islands, NoMemory, WINDOW, is_beyond};
 use std::alloc::Allocator;
 
@@ -37,7 +36,7 @@ impl<A: Allocator> Islands<A> {
 
     /// What stands past the last place that came.
     #[inline(always)]
-    pub(crate) fn ahead(&self) -> &[u8]
+    fn ahead(&self) -> &[u8]
         ensures { result.now ≡ self.now.ahead }
     {
         let (_, ahead) = self
@@ -70,7 +69,6 @@ impl<A: Allocator> Islands<A> {
         ensures can { IfOk result (λ ready. ready ≡ true) }
     {
         let_go(&mut self.octets, &mut self.base, self.end, self.floor);
-        self.would_stand = still_stand(self.would_stand, self.octets.capacity());
         let to = self.end + n as u64;
         shorten(&mut self.octets, &mut self.base, self.floor, self.end, to);
         grow(&mut self.octets, (to - self.base) as usize)?;
@@ -124,7 +122,7 @@ impl<A: Allocator> Islands<A> {
 
 /// An octet is below 256: so much is known of a slice that is passed to a function.
 #[inline(always)]
-pub(crate) fn are_octets(octets: &[u8])
+fn are_octets(octets: &[u8])
     ensures { (k : ℕ) → slice_index octets.now k < 256 }
 {
     let _ = octets;

@@ -17,7 +17,6 @@ mod in_place;
 pub mod laws;
 pub mod nearest;
 mod spans;
-mod through;
 
 use buffer::{fits_after, let_go, put, put_after, shorten};
 use spans::{
@@ -26,7 +25,6 @@ use spans::{
 use std::alloc::{AllocError, Allocator, Global};
 use std::collections::VecDeque;
 use std::marker::Model;
-use through::still_stand;
 
 /// How far past the in-order point an octet may lie, in octets.
 pub const WINDOW: u64 = 262_144;
@@ -58,11 +56,6 @@ pub struct Islands<A: Allocator = Global> {
     end: u64,
     /// Octets side by side, 327,680 at most; those at places that didn't come mean nothing. They may reach past `end`.
     octets: Vec<u8, A>,
-    /// How many octets would stand there at least if each read by way of another place had been made in place, as long as
-    /// there is memory for so many. Those that don't stand there would be zeros.
-    would_stand: u32,
-    /// How many reads went by way of another place.
-    reads: u32,
     /// The places that came, the first span from place 0 on.
     spans: VecDeque<Span, A>,
     /// The places whose octets were given up, as far as they may lie past the in-order point.
@@ -97,8 +90,6 @@ impl<A: Allocator> Islands<A> {
             missing: 0,
             end: 0,
             octets: Vec::new(alloc),
-            would_stand: 0,
-            reads: 0,
             spans,
             gone: VecDeque::new(alloc),
         })
@@ -186,7 +177,6 @@ impl<A: Allocator> Islands<A> {
         if is_one_too_many(&self.spans, low, from, to) {
             return Ok(Delivery::Dropped);
         }
-        self.would_stand = still_stand(self.would_stand, self.octets.capacity());
         shorten(&mut self.octets, &mut self.base, self.floor, self.end, to);
         put(
             &mut self.octets,

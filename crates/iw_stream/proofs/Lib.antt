@@ -26,4 +26,3 @@ pub mod Lengths
 pub mod Passing
 pub mod InPlace
 pub mod TakenIn
-pub mod Cleared

@@ -5,12 +5,10 @@ use iw_connection::{
     Endpoint, Filled, Intake, Octets, Step, StreamNumber, close, fill, next, take,
 };
 use iw_endpoint::{
-    CallRefusal, Config, Establishment, Message, PrivateData, ReadRequest, Request, Rights, Role,
-    Stag,
+    Config, Establishment, Message, PrivateData, ReadRequest, Request, Rights, Role, Stag,
 };
 use std::alloc::Global;
-use std::io::{ErrorKind, Read};
-use std::ptr::null_mut;
+use std::io::Read;
 use std::test::Fail;
 
 const DOMAIN: u8 = 1;
@@ -33,15 +31,6 @@ pub(crate) struct End {
     pub(crate) seen: Seen,
 }
 
-fn config() -> Config {
-    Config {
-        markers: true,
-        crc: true,
-        establishment: Establishment::Plain,
-        private: PrivateData::new(),
-    }
-}
-
 impl End {
     /// An end with a domain, a stream in it, and a buffer for a message.
     pub(crate) fn open(alloc: Global, role: Role) -> Result<End, Fail> {
@@ -60,55 +49,16 @@ impl End {
     }
 
     fn set_up(&mut self, alloc: Global, role: Role) -> Result<(), Fail> {
+        let config = Config {
+            markers: true,
+            crc: true,
+            establishment: Establishment::Plain,
+            private: PrivateData::new(),
+        };
         self.endpoint.add_domain(DOMAIN)?;
-        self.endpoint.open(STREAM, DOMAIN, role, config())?;
+        self.endpoint.open(STREAM, DOMAIN, role, config)?;
         self.endpoint.post_recv(STREAM, vec![in alloc; 0u8; 16]?)?;
         Ok(())
-    }
-
-    /// Opens so many other streams, and reads one octet at each.
-    pub(crate) fn read_elsewhere(&mut self, streams: u32) -> Result<(), Fail> {
-        for _ in 0..streams {
-            let number = self.endpoint.open_next(DOMAIN, Role::Preset, config())?;
-            take(&mut self.endpoint, number, &mut [0u8].as_slice())?;
-        }
-        Ok(())
-    }
-
-    /// Reads, and does no step. If the read failed, tells the kind of the error.
-    pub(crate) fn take<S: Read>(&mut self, socket: &mut S) -> Result<Intake, ErrorKind> {
-        match take(&mut self.endpoint, STREAM, socket) {
-            Ok(intake) => Ok(intake),
-            Err(CallRefusal::Refused(error)) => Err(error.kind()),
-            Err(CallRefusal::NoSuchStream) => Err(ErrorKind::NotFound),
-        }
-    }
-
-    /// Counts octets as come, and tells whether it did.
-    pub(crate) fn came(&mut self, n: usize) -> Result<bool, Fail> {
-        Ok(self.endpoint.came(STREAM, n)?)
-    }
-
-    /// For how many octets of those that are wanted there is a place; `None` if there is none.
-    pub(crate) fn lend_place(&mut self, want: usize) -> Option<usize> {
-        let mut at = null_mut();
-        self.endpoint.lend_place(STREAM, want, &mut at).ok()
-    }
-
-    /// Delivers octets at a sequence number.
-    pub(crate) fn deliver(&mut self, sequence: u32, octets: &[u8]) -> Result<(), Fail> {
-        self.endpoint.deliver(STREAM, sequence, octets)?;
-        Ok(())
-    }
-
-    /// The place up to which all octets had their turn.
-    pub(crate) fn in_order_point(&self) -> Result<u64, Fail> {
-        Ok(self.endpoint.in_order_point(STREAM)?)
-    }
-
-    /// The octets of a region.
-    pub(crate) fn region(&self, stag: Stag) -> Option<&[u8]> {
-        self.endpoint.local(stag)
     }
 
     /// The longest frames that there can be.
@@ -186,8 +136,7 @@ impl End {
         self.act()
     }
 
-    /// Does all steps.
-    pub(crate) fn act(&mut self) -> Result<(), Fail> {
+    fn act(&mut self) -> Result<(), Fail> {
         for _ in 0..u64::MAX {
             match next(&mut self.endpoint, STREAM)? {
                 Step::Idle => break,

@@ -8,5 +8,3 @@ mod carried;
 mod end;
 #[cfg(test)]
 mod reads;
-#[cfg(test)]
-mod young;

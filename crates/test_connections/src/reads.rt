@@ -9,7 +9,7 @@ use std::test::Fail;
 use test_support::Halting;
 
 /// How many octets are written.
-pub(crate) const LENGTH: usize = 300_000;
+const LENGTH: usize = 300_000;
 
 /// Sizes of reads: the least; about those of markers, frames, reads in place, safe deliveries and the window; the most.
 const SIZES: [usize; 22] = [
@@ -18,7 +18,7 @@ const SIZES: [usize; 22] = [
 ];
 
 // The region of the reading end: the first of its domain.
-pub(crate) fn region() -> Stag {
+fn region() -> Stag {
     Stag::from_octets([1, 0, 0, 0])
 }
 

@@ -219,15 +219,3 @@ fn a_fault_ends_a_stream(rt: HostRuntime) -> Result<(), Fail> {
     }
     Ok(())
 }
-
-#[test]
-fn eight_reads_are_made_by_way_of_a_scratch(rt: HostRuntime) -> Result<(), Fail> {
-    let mut stream = open(rt.alloc(), false, false)?;
-    let mut scratch = vec![in rt.alloc(); 0u8; 65_536]?;
-    for _ in 0..8 {
-        assert!(rt; stream.is_cheaper_through());
-        stream.read_through(&mut b"a".as_slice(), scratch.as_mut_slice())?;
-    }
-    assert!(rt; !stream.is_cheaper_through());
-    Ok(())
-}

@@ -1,6 +1,5 @@
 //! Tests of streams without end, over the public interface of `iw_endpoint`: which number each is given, what is answered
-//! once it was closed, which regions are its own, that a call which is refused memory changes nothing, that a read needs
-//! no memory but its stream's, and that no reader is handed what came at another stream.
+//! once it was closed, which regions are its own, and that a call which is refused memory changes nothing.
 #![tactic(auto)]
 
 #[cfg(test)]
@@ -15,5 +14,3 @@ mod limited;
 mod numbers;
 #[cfg(test)]
 mod refused;
-#[cfg(test)]
-mod young;

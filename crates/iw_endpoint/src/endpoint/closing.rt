@@ -4,7 +4,6 @@ ghost use Rattle.iw_stream.specs.Stream.{peer_of};
 
 use super::Endpoint;
 use crate::refusal::{CallRefusal, NoSuchStream, NotAtRest};
-use crate::scratch::FEW_STREAMS;
 use iw_memory::Peer;
 use std::alloc::Allocator;
 
@@ -41,9 +40,6 @@ impl<A: Allocator> Endpoint<A> {
         let peer = self.peer_at_rest(number)?;
         self.memory.retire(peer);
         self.streams.remove(number);
-        if self.streams.len() < FEW_STREAMS {
-            self.scratch.give_back();
-        }
         self.closed.keep(number, peer.domain);
         Ok(())
     }

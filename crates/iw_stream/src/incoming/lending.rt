@@ -34,7 +34,6 @@ fn count_ahead<A: Allocator>(islands: &mut Islands<A>, n: usize) -> bool
     if n == 0 {
         return false;
     }
-    islands.even_out(n);
     let place = islands.end();
     islands.came_in_place(place, n)
 }

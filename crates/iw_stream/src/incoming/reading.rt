@@ -1,7 +1,7 @@
 //! Octets that are read in place: to where they stand past the last that came.
-ghost use Rattle.std.specs.Prelude.{◌≡◌, ◌<◌, ◌≤◌, ℕ, length, take, slice_index, [], IfOk, OnErr};
+ghost use Rattle.std.specs.Prelude.{◌≡◌, ◌<◌, ◌≤◌, take, [], IfOk, OnErr};
 ghost use Rattle.std.specs.Io.KnownBytes.{Consumes, IsAtEnd, Keeps};
-ghost use Rattle.iw_ranges.specs.Arrived.{IsReadyFor, most_ahead};
+ghost use Rattle.iw_ranges.specs.Arrived.{IsReadyFor};
 ghost use Rattle.iw_stream.specs.Reading.{Brings, Reads, room_ahead};
 
 use super::Incoming;
@@ -51,42 +51,6 @@ fn read_in_place<A: Allocator, R: Read>(
     Ok(got)
 }
 
-// Writes zeros over the first `n` octets.
-fn wipe(octets: &mut [u8], n: usize)
-    requires { n ≤ length octets.old }
-    ensures front { (k : ℕ) → k < n → slice_index octets.new k ≡ 0 }
-    ensures rest { (k : ℕ) → n ≤ k → slice_index octets.new k ≡ slice_index octets.old k }
-{
-    let (front, _) = octets.split_at_mut(n);
-    front.fill(0);
-}
-
-// The same as `read_in_place`, by way of `scratch`, which has room for `n`. If it held zeros, it does again.
-fn read_through<A: Allocator, R: Read>(
-    islands: &mut Islands<A>,
-    from: &mut R,
-    n: usize,
-    scratch: &mut [u8],
-) -> io::Result<usize>
-    requires some { 0 < n }
-    requires most { n ≤ most_ahead islands.old.arrived }
-    requires within { n ≤ length scratch.old }
-    ensures few { IfOk result (λ got. got ≤ n) }
-    ensures none { IfOk result (λ got. got ≡ 0 →
-        (islands.new.arrived ≡ islands.old.arrived) × Consumes (R.remaining from.old) (R.remaining from.new) [] × IsAtEnd (R.remaining from.new)) }
-    ensures came { IfOk result (λ got. 0 < got →
-        Brings islands.old.arrived islands.new.arrived (R.remaining from.old) (R.remaining from.new) got) }
-    ensures clear { ((k : ℕ) → slice_index scratch.old k ≡ 0) → (k : ℕ) → slice_index scratch.new k ≡ 0 }
-    ensures err { OnErr result ((islands.new.arrived ≡ islands.old.arrived) × Keeps (R.remaining from.old) (R.remaining from.new)) }
-{
-    // Its clauses tell the limits that the proof needs.
-    let _end = islands.end();
-    let (front, _) = scratch.split_at_mut(n);
-    let got = islands.read_through(from, front)?;
-    wipe(front, got);
-    Ok(got)
-}
-
 impl<A: Allocator> Incoming<A> {
     ghost use Rattle.iw_stream.specs.Incoming.{IsSameStart};
 
@@ -111,40 +75,6 @@ impl<A: Allocator> Incoming<A> {
         }
         let place = self.islands.end();
         let got = read_in_place(&mut self.islands, from, n)?;
-        if got == 0 {
-            return Ok(Intake::End);
-        }
-        let from = place.saturating_sub(self.locator.base);
-        let to = (place + got as u64).saturating_sub(self.locator.base);
-        self.unsearched.delivered(from, to);
-        Ok(Intake::Came(got))
-    }
-
-    /// Whether `read_through` is the cheaper way to read.
-    #[inline]
-    pub(crate) fn is_cheaper_through(&self) -> bool {
-        self.islands.is_cheaper_through(self.room().min(MOST_READ))
-    }
-
-    /// The same as `read_from`, by way of `scratch` if it has room for as many octets as are read at most. If it held zeros,
-    /// it does again.
-    pub(crate) fn read_through<R: Read>(
-        &mut self,
-        from: &mut R,
-        scratch: &mut [u8],
-    ) -> io::Result<Intake>
-        ensures ok { IfOk result (λ intake. Reads self.old.arrived self.new.arrived (R.remaining from.old) (R.remaining from.new) intake) }
-        ensures err { OnErr result ((self.new.arrived ≡ self.old.arrived) × Keeps (R.remaining from.old) (R.remaining from.new)) }
-        ensures clear { ((k : ℕ) → slice_index scratch.old k ≡ 0) → (k : ℕ) → slice_index scratch.new k ≡ 0 }
-        ensures early { self.new.early ≡ self.old.early }
-        ensures same { IsSameStart self.old self.new }
-    {
-        let n = self.room().min(MOST_READ);
-        if n == 0 || scratch.len() < n {
-            return self.read_from(from);
-        }
-        let place = self.islands.end();
-        let got = read_through(&mut self.islands, from, n, scratch)?;
         if got == 0 {
             return Ok(Intake::End);
         }

@@ -1,5 +1,5 @@
 //! Octets that are read from the connection in place.
-ghost use Rattle.std.specs.Prelude.{◌≡◌, ◌<◌, ◌≤◌, length, slice_index, List, ℕ, false, true, IfOk, OnErr};
+ghost use Rattle.std.specs.Prelude.{◌≡◌, ◌<◌, ◌≤◌, length, List, ℕ, false, true, IfOk, OnErr};
 ghost use Rattle.std.specs.Io.KnownBytes.{Consumes, IsAtEnd, Keeps};
 
 use super::Stream;
@@ -62,54 +62,6 @@ impl<A: Allocator> Stream<A> {
         ensures err { OnErr result ((self.new ≡ self.old) × Keeps (R.remaining from.old) (R.remaining from.new)) }
     {
         match self.arrived.read_from(from) {
-            Ok(Intake::Came(got)) => {
-                self.answered = true;
-                Ok(Intake::Came(got))
-            }
-            Ok(Intake::End) => Ok(Intake::End),
-            Ok(Intake::Full) => Ok(Intake::Full),
-            Err(error) => Err(error),
-        }
-    }
-
-    /// Whether [`Stream::read_through`] is the cheaper way to read: no octet from the stream's 16,384th on came yet, fewer
-    /// than eight reads were made so, and a read in place would first have zeros written to most of where the octets are to
-    /// stand.
-    #[inline]
-    pub fn is_cheaper_through(&self) -> bool {
-        !self.ending.has_ended() && self.arrived.is_cheaper_through()
-    }
-
-    /// The same as [`Stream::read_from`], by way of `scratch`: the octets are read to there, and are then copied to where
-    /// they are to stand. It asks for the same memory, and does so before it reads, but of a reader that writes no more than
-    /// it tells it writes only to as much of it as was read. Where `scratch` has less room than as many octets as are read at
-    /// most, 65,536, it is not used.
-    ///
-    /// If `scratch` holds zeros, the reader is handed the same octets as at `read_from`, those that it leaves past what it
-    /// tells are left where it would have left them, and `scratch` holds zeros again. An `Err` is as that of `read_from`.
-    pub fn read_through<R: Read>(&mut self, from: &mut R, scratch: &mut [u8]) -> io::Result<Intake>
-        ensures ok { IfOk result (λ intake. IsRead self.old self.new (R.remaining from.old) (R.remaining from.new) intake) }
-        ensures clear { ((k : ℕ) → slice_index scratch.old k ≡ 0) → (k : ℕ) → slice_index scratch.new k ≡ 0 }
-        ensures err { OnErr result ((self.new ≡ self.old) × Keeps (R.remaining from.old) (R.remaining from.new)) }
-    {
-        if self.ending.has_ended() {
-            return self.read_ended(from);
-        }
-        self.read_running_through(from, scratch)
-    }
-
-    // The same of a stream that runs.
-    fn read_running_through<R: Read>(
-        &mut self,
-        from: &mut R,
-        scratch: &mut [u8],
-    ) -> io::Result<Intake>
-        requires { ended self.old ≡ false }
-        ensures ok { IfOk result (λ intake. IsRead self.old self.new (R.remaining from.old) (R.remaining from.new) intake) }
-        ensures clear { ((k : ℕ) → slice_index scratch.old k ≡ 0) → (k : ℕ) → slice_index scratch.new k ≡ 0 }
-        ensures err { OnErr result ((self.new ≡ self.old) × Keeps (R.remaining from.old) (R.remaining from.new)) }
-    {
-        match self.arrived.read_through(from, scratch) {
             Ok(Intake::Came(got)) => {
                 self.answered = true;
                 Ok(Intake::Came(got))

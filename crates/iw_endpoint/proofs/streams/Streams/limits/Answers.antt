@@ -8,5 +8,5 @@ use Rattle.iw_endpoint.proofs.streams.Streams.limits.Goals as goal
 pub returns : goal.returns
 returns g c =
     let size : length c.args.self.now ≡ c.self.inside.next = size_listed (hash.get nat_eq c.self.inside.keys) (slab.get c.self.inside.places) c.self.inside.next c.args.self.now c.self.view_is in
-    let least = c.self.invariant.keeps.least in
+    let least = c.self.invariant.least in
     omega (arith, size, least)

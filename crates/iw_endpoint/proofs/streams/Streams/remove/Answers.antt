@@ -16,12 +16,12 @@ returns-in-Some g c =
     let gone : Changes (hash.get nat_eq c.self.inside.keys) (hash.get nat_eq c.remove.new.self) n None = record { changed = u.1; others = λ m ne. u.2 m (ne_eqb n m (λ e. ne (sym e))) } in
     let v = c.remove-in-Some.ensures.updates in
     let out : Changes (slab.get c.self.inside.places) (slab.get c.remove-in-Some.new.self) c.in-Some.place None = record { changed = v.changed; others = v.others } in
-    listed_removed _ _ _ _ c.self.inside.next n c.in-Some.place c.self.invariant.keeps key gone out ∙ ap (λ ys. slice_set ys n None) c.self.view_is
+    listed_removed _ _ _ _ c.self.inside.next n c.in-Some.place c.self.invariant key gone out ∙ ap (λ ys. slice_set ys n None) c.self.view_is
 
 pub returns-in_default : goal.returns-in_default
 returns-in_default g c =
     let n = c.args.number in
     let key : hash.get nat_eq c.self.inside.keys n ≡ None = search rules in
     listed_stays (hash.get nat_eq c.self.inside.keys) (hash.get nat_eq c.remove.new.self) (slab.get c.self.inside.places) (slab.get c.self.inside.places) c.self.inside.next (λ q. ap (lookup (nat_eq q)) c.in_default.ensures.unchanged) (λ m. refl)
-    ∙ nothing_removed _ _ c.self.inside.next n c.self.invariant.keeps key
+    ∙ nothing_removed _ _ c.self.inside.next n c.self.invariant key
     ∙ ap (λ ys. slice_set ys n None) c.self.view_is
