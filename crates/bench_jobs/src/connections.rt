@@ -14,16 +14,23 @@ use std::collections::VecDeque;
 /// How many connections are idle.
 const IDLE: u32 = 4_000;
 
-/// How many others are open at a time.
-const ALIVE: usize = 256;
-
 /// The octets of a connection's region.
 const REGION: usize = 4_096;
 
-/// The commands of a connection.
-const COMMANDS: u32 = 4;
-
 const MOST: u32 = 100_000;
+
+/// How many connections beside the idle ones are open at a time, and how many commands each has.
+#[derive(Clone, Copy)]
+pub(crate) struct Load {
+    pub(crate) alive: usize,
+    pub(crate) commands: u32,
+}
+
+/// Many are open at a time.
+pub(crate) const MANY: Load = Load {
+    alive: 256,
+    commands: 4,
+};
 
 /// A connection, and the region that its client writes to.
 #[derive(Clone, Copy)]
@@ -35,6 +42,7 @@ struct Connection {
 #[derive(Drop)]
 struct Server {
     alloc: Global,
+    load: Load,
     random: Random,
     pool: Pool,
     client: End,
@@ -44,11 +52,12 @@ struct Server {
 }
 
 impl Server {
-    fn new(alloc: Global, seed: u32) -> Result<Server> {
+    fn new(alloc: Global, seed: u32, load: Load) -> Result<Server> {
         let mut random = Random::new(seed);
         let pool = Pool::new(alloc, &mut random)?;
         Ok(Server {
             alloc,
+            load,
             random,
             pool,
             client: End::new(alloc)?,
@@ -208,7 +217,7 @@ impl Server {
             stag: u32::from(stag),
         };
         self.write(connection)?;
-        for _ in 0..COMMANDS {
+        for _ in 0..self.load.commands {
             self.command(number)?;
         }
         Ok(connection)
@@ -250,7 +259,7 @@ impl Server {
         for _ in 0..connections {
             let connection = self.serve()?;
             self.open.push_back(connection)?;
-            if self.open.len() > ALIVE {
+            if self.open.len() > self.load.alive {
                 if let Some(oldest) = self.open.pop_front() {
                     self.end(oldest)?;
                 }
@@ -261,8 +270,8 @@ impl Server {
 }
 
 /// Serves so many hundreds of connections. Returns the digest of what came.
-pub(crate) fn run(alloc: Global, seed: u32, hundreds: u32) -> Result<u64> {
-    let mut server = Server::new(alloc, seed)?;
+pub(crate) fn run(alloc: Global, seed: u32, hundreds: u32, load: Load) -> Result<u64> {
+    let mut server = Server::new(alloc, seed, load)?;
     server.run(hundreds.saturating_mul(100))?;
     Ok(server.digest.finish())
 }

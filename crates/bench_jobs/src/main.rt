@@ -1,7 +1,8 @@
 //! Jobs that users of the endpoint wait for, on inputs that a seed determines (bench/workloads.txt).
 //!
-//! `bench_jobs NAME SEED SIZE` does a job and prints a digest of all its results. With no arguments it does each of them
-//! once, in small.
+//! `bench_jobs NAME SEED SIZE` does a job and prints a digest of all its results; `bench_jobs connections SEED SIZE ALIVE
+//! COMMANDS` has so many connections open at a time, of so many commands each. With no arguments it does each job once, in
+//! small.
 #![tactic(auto)]
 
 mod awkward;
@@ -14,6 +15,7 @@ mod replay;
 mod schedule;
 mod storage;
 
+use crate::connections::{Load, MANY};
 use anyhow::{Context, Result, bail};
 use std::alloc::Global;
 use std::rt::Runtime;
@@ -39,7 +41,7 @@ fn job(alloc: Global, name: &str, seed: u32, size: u32) -> Result<u64> {
         "storage-crc" => storage::run(alloc, seed, size, true),
         "lossy" => lossy::run(alloc, seed, size),
         "replay" => replay::run(alloc, seed, size),
-        "connections" => connections::run(alloc, seed, size),
+        "connections" => connections::run(alloc, seed, size, MANY),
         "awkward" => awkward::run(alloc, seed, size),
         _ => bail!("no job is named {name}"),
     }
@@ -48,6 +50,18 @@ fn job(alloc: Global, name: &str, seed: u32, size: u32) -> Result<u64> {
 fn report<R: Runtime + AllocGlobal>(rt: &R, name: &str, seed: u32, size: u32) -> Result<()> {
     let digest = job(rt.alloc(), name, seed, size)?;
     println!(rt; "{name}: {digest:016x}")?;
+    Ok(())
+}
+
+// Connections under a load of these words.
+fn report_connections<R: Runtime + AllocGlobal>(
+    rt: &R,
+    seed: u32,
+    size: u32,
+    load: Load,
+) -> Result<()> {
+    let digest = connections::run(rt.alloc(), seed, size, load)?;
+    println!(rt; "connections: {digest:016x}")?;
     Ok(())
 }
 
@@ -65,7 +79,14 @@ fn follow<R: Runtime + AllocGlobal>(rt: &R, words: &[String]) -> Result<()> {
             number(seed.as_str())?,
             number(size.as_str())?,
         ),
-        _ => bail!("bench_jobs NAME SEED SIZE"),
+        [_, name, seed, size, alive, commands] if name.as_str() == "connections" => {
+            let load = Load {
+                alive: number(alive.as_str())? as usize,
+                commands: number(commands.as_str())?,
+            };
+            report_connections(rt, number(seed.as_str())?, number(size.as_str())?, load)
+        }
+        _ => bail!("bench_jobs NAME SEED SIZE, or bench_jobs connections SEED SIZE ALIVE COMMANDS"),
     }
 }
 
