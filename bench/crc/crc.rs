@@ -115,7 +115,8 @@ fn with_instruction(octets: &[u8]) -> u32 {
 }
 
 fn main() {
-    let lens = (0..700).chain([1000, 1456, 1457, 2048, 2339, 4386, 5000, 9000, 70_001]);
+    // With both sides of each length at which iw_octets goes another way.
+    let lens = (0..700).chain([799, 800, 801, 1000, 1456, 1457, 1826, 1827, 2048, 2339, 4386, 5000, 9000, 70_001]);
     for octets in lens.map(some_octets) {
         assert_eq!(ours(&octets), bit_by_bit(&octets), "at {} octets", octets.len());
     }

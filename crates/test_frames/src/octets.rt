@@ -7,6 +7,8 @@ use iw_octets::{
 fn crc_of_runs(rt: HostRuntime) {
     assert_eq!(rt; crc32c("123456789".as_bytes()), 0xe306_9283);
     assert_eq!(rt; crc32c(&[0; 32]), 0x8a91_36aa);
+    assert_eq!(rt; crc32c(&[7; 800]), 0x5b97_42c0);
+    assert_eq!(rt; crc32c(&[7; 1827]), 0x0471_63f0);
     assert_eq!(rt; crc32c(&[7; 5000]), 0x935a_67dc);
 }
 
