@@ -29,7 +29,7 @@ pub(crate) fn number<A: Allocator>(text: &mut String<A>, number: u64) -> Result<
 }
 
 /// Octets as hexadecimal digits, or `-` for none.
-pub(crate) fn octets<A: Allocator + Copy>(
+pub(crate) fn octets<A: Allocator>(
     text: &mut String<A>,
     octets: &[u8],
 ) -> Result<(), AllocError>
@@ -42,7 +42,7 @@ pub(crate) fn octets<A: Allocator + Copy>(
     hexadecimal::many(text, octets)
 }
 
-pub(crate) fn stag<A: Allocator + Copy>(text: &mut String<A>, stag: Stag) -> Result<(), AllocError>
+pub(crate) fn stag<A: Allocator>(text: &mut String<A>, stag: Stag) -> Result<(), AllocError>
     ensures { OnOk result (string_bytes text.new ≡ with_words (string_bytes text.old) (stag_text stag ∷ [])) }
 {
     text.push_str(" ")?;
@@ -50,7 +50,7 @@ pub(crate) fn stag<A: Allocator + Copy>(text: &mut String<A>, stag: Stag) -> Res
 }
 
 /// An STag, or `-` for none.
-pub(crate) fn optional_stag<A: Allocator + Copy>(
+pub(crate) fn optional_stag<A: Allocator>(
     text: &mut String<A>,
     name: Option<Stag>,
 ) -> Result<(), AllocError>

@@ -34,8 +34,15 @@ pub(crate) enum CallWord {
     Break,
 }
 
+// How many places the table of words has.
+const PLACE_COUNT: usize = 64;
+
+// What `likely` multiplies the third letter by: the least factor that gives each of the 23 words a place of its own among
+// 64, by trial of all. Among 32 places none does.
+const LETTER_FACTOR: usize = 36;
+
 // The words at the places that `likely` goes to. `Domain` fills the places at which no word belongs.
-static PLACES: [CallWord; 64] = [
+static PLACES: [CallWord; PLACE_COUNT] = [
     CallWord::Domain,
     CallWord::Domain,
     CallWord::Domain,
@@ -103,33 +110,6 @@ static PLACES: [CallWord; 64] = [
 ];
 
 impl CallWord {
-    /// All words.
-    pub(crate) const ALL: [CallWord; 23] = [
-        CallWord::Domain,
-        CallWord::Register,
-        CallWord::Deregister,
-        CallWord::Invalidate,
-        CallWord::Store,
-        CallWord::Open,
-        CallWord::Share,
-        CallWord::Pool,
-        CallWord::Unpool,
-        CallWord::OpenShared,
-        CallWord::Accept,
-        CallWord::Reject,
-        CallWord::Recv,
-        CallWord::Send,
-        CallWord::Write,
-        CallWord::Read,
-        CallWord::Emit,
-        CallWord::Work,
-        CallWord::Deliver,
-        CallWord::Raw,
-        CallWord::First,
-        CallWord::Mulpdu,
-        CallWord::Break,
-    ];
-
     pub(crate) fn text(self) -> &'static str
         ensures { result.now ≡ call_text self }
     {
@@ -176,7 +156,7 @@ impl CallWord {
         ensures { (call : CallWord) → word.now ≡ call_text call → result ≡ call }
     {
         let third = word.get(2).copied().unwrap_or(0);
-        PLACES[(word.len() % 64 + 36 * third as usize) % 64]
+        PLACES[(word.len() % PLACE_COUNT + LETTER_FACTOR * third as usize) % PLACE_COUNT]
     }
 }
 
