@@ -29,10 +29,7 @@ pub(crate) fn number<A: Allocator>(text: &mut String<A>, number: u64) -> Result<
 }
 
 /// Octets as hexadecimal digits, or `-` for none.
-pub(crate) fn octets<A: Allocator>(
-    text: &mut String<A>,
-    octets: &[u8],
-) -> Result<(), AllocError>
+pub(crate) fn octets<A: Allocator>(text: &mut String<A>, octets: &[u8]) -> Result<(), AllocError>
     ensures { OnOk result (string_bytes text.new ≡ with_words (string_bytes text.old) (octets_text octets.now ∷ [])) }
 {
     if octets.is_empty() {

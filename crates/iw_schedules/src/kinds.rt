@@ -19,8 +19,13 @@ use std::alloc::{AllocError, Allocator};
 /// The most octets that a word stands for.
 pub(crate) const MAX_WORD_OCTETS: u64 = 20_000_000;
 
-// From how many digits on they are read some at a time.
+// From how many digits on `hexadecimal::read` reads them. It goes by 16 pairs, as the compiler makes it, and fewer digits
+// are no dearer by `hex`.
 const MANY_DIGITS: usize = 32;
+
+// How many octets are looked at one by one for a `*`: where one octet is repeated, it stands third. In most other words
+// there is none.
+const NEAR_TIMES: usize = 3;
 
 /// The most events that a line stands for.
 pub(crate) const MAX_TIMES: u64 = 100_000;
@@ -110,7 +115,7 @@ fn from_hex<A: Allocator>(alloc: A, word: &[u8]) -> Result<Vec<u8, A>, ReadError
     Ok(octets)
 }
 
-// As `from_hex`, for many digits: they are read some at a time.
+// As `from_hex`, for many digits: all are read before it is asked whether they are digits.
 #[tactic(auto, unfolding(crate::specs::Kinds::hex_word))]
 fn from_many<A: Allocator>(alloc: A, word: &[u8]) -> Result<Vec<u8, A>, ReadError>
     requires { MANY_DIGITS ≤ length word.now }
@@ -174,7 +179,7 @@ pub(crate) fn octets<A: Allocator + Copy>(alloc: A, word: &[u8]) -> Result<Bytes
     if word == b"-".as_slice() {
         return Ok(Bytes::new());
     }
-    let (digits, times) = split_at(word, b'*', 3);
+    let (digits, times) = split_at(word, b'*', NEAR_TIMES);
     let octets = from_hex(alloc, digits)?;
     let times = count(times)?;
     match times.checked_mul(octets.len() as u64) {

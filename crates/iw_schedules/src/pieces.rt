@@ -46,8 +46,10 @@ impl<'a> Pieces<'a> {
     }
 }
 
-/// The text before the first separator, and the text after it, if there is a separator. So many octets are looked at one
-/// by one, and then many at once. It is inlined, so that memchr is not, which would have its stack set up for each word.
+/// The text before the first separator, and the text after it, if there is a separator. The first `near` octets are looked
+/// at one by one, those past them by `memchr`.
+// `find` is compiled in line here, and this where it is called, so that `memchr` stays a call of its own, which most words
+// don't come to. In a `find` of its own it was compiled in line, and each word paid for its stack.
 #[inline(always)]
 pub(crate) fn split_at(text: &[u8], separator: u8, near: usize) -> (&[u8], Option<&[u8]>)
     ensures front { result.0.now ≡ (split_at_first separator text.now).0 }
