@@ -1,11 +1,14 @@
 //! Times the CRC-32C of iw_octets beside the usual ways in plain Rust: a table, slicing-by-8, and the processor's own instruction.
+#[path = "../bit_by_bit.rs"]
+mod bit_by_bit;
+
 use std::hint::black_box;
 use std::time::Instant;
 
 const POLYNOMIAL: u32 = 0x82f6_3b78;
 
 unsafe extern "C" {
-    fn iw_crc32c(octets: *const u8, len: usize) -> u32;
+    fn crc_ours(octets: *const u8, len: usize) -> u32;
 }
 
 const fn slices() -> [[u32; 256]; 8] {
@@ -35,17 +38,6 @@ const fn slices() -> [[u32; 256]; 8] {
 }
 
 static SLICES: [[u32; 256]; 8] = slices();
-
-fn bit_by_bit(octets: &[u8]) -> u32 {
-    let mut crc = !0u32;
-    for octet in octets {
-        crc ^= u32::from(*octet);
-        for _ in 0..8 {
-            crc = if crc & 1 == 1 { crc >> 1 ^ POLYNOMIAL } else { crc >> 1 };
-        }
-    }
-    !crc
-}
 
 fn one(crc: u32, octet: u8) -> u32 {
     SLICES[0][((crc ^ u32::from(octet)) & 0xff) as usize] ^ crc >> 8
@@ -87,7 +79,7 @@ fn instruction(octets: &[u8]) -> u32 {
 }
 
 fn ours(octets: &[u8]) -> u32 {
-    unsafe { iw_crc32c(octets.as_ptr(), octets.len()) }
+    unsafe { crc_ours(octets.as_ptr(), octets.len()) }
 }
 
 fn some_octets(len: usize) -> Vec<u8> {
@@ -115,11 +107,7 @@ fn with_instruction(octets: &[u8]) -> u32 {
 }
 
 fn main() {
-    // With both sides of each length at which iw_octets goes another way.
-    let lens = (0..700).chain([799, 800, 801, 1000, 1456, 1457, 1826, 1827, 2048, 2339, 4386, 5000, 9000, 70_001]);
-    for octets in lens.map(some_octets) {
-        assert_eq!(ours(&octets), bit_by_bit(&octets), "at {} octets", octets.len());
-    }
+    bit_by_bit::must_agree("iw_octets", ours);
     let has_instruction = std::is_x86_feature_detected!("sse4.2");
     let mut contenders: Vec<fn(&[u8]) -> u32> = vec![slicing_by_8, table, ours];
     if has_instruction {
