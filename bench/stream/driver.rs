@@ -2,7 +2,11 @@
 //! ratios of their times, and ends with status 1 where one is below what is wanted. It reads the processor's time of this
 //! thread, in which other work shows little, and takes the least time of many short runs that go by turns: what else the
 //! machine does harms all of them alike.
+//!
+//! Its argument is the number of turns. After the word `crc` it compares the speed of the two CRCs, and nothing else.
 
+#[path = "../bit_by_bit.rs"]
+mod bit_by_bit;
 #[path = "../clock.rs"]
 mod clock;
 mod copies;
@@ -279,22 +283,26 @@ fn take_crcs(crc32c: fn(&[u8]) -> u32, octets: &[u8]) {
     }
 }
 
-/// How fast the peer's CRC is: its time to that of `iw_octets`.
-fn judge_crc(turns: usize, wanted: &mut Wanted) {
-    let octets: Vec<u8> = (0..1_400u32).map(|i| (i * i) as u8).collect();
+/// The time of our CRC of so many octets, to that of the peer's.
+fn crc_to_peer(turns: usize, len: usize) -> f64 {
+    let octets = row::octets(len);
     let (mut ours, mut peer) = (f64::MAX, f64::MAX);
-    for n in 0..octets.len() {
-        assert_eq!(ours::crc32c(&octets[..n]), peer::crc::crc32c(&octets[..n]));
-    }
     for _ in 0..turns {
         row::less(&mut ours, || take_crcs(ours::crc32c, &octets));
         row::less(&mut peer, || take_crcs(peer::crc::crc32c, &octets));
     }
-    wanted.at_least("CRC of 1,400 octets, our time to the peer's", ours / peer, 0.9);
+    ours / peer
 }
 
-fn main() {
-    let turns = std::env::args().nth(1).map_or(TURNS, |word| word.parse().expect("a number of turns"));
+/// How fast the peer's CRC is beside that of `iw_octets`. The rows with CRCs have mostly frames of 1,400 octets.
+fn judge_crc(turns: usize, wanted: &mut Wanted) {
+    for len in [128, 508, 8_900, 64_512] {
+        println!("CRC of {len} octets, our time to the peer's: {:.2}", crc_to_peer(turns, len));
+    }
+    wanted.at_least("CRC of 1,400 octets, our time to the peer's", crc_to_peer(turns, 1_400), 0.9);
+}
+
+fn judge_all(turns: usize, wanted: &mut Wanted) {
     let (mut rows, mut limits, mut early) = (rows::rows(), rows::limits(), rows::received_early());
     for row in rows.iter().chain(&limits).chain(&early) {
         row.try_out();
@@ -313,18 +321,29 @@ fn main() {
     print_held(&idle);
     print_held(&held::used());
     println!();
-    let mut wanted = Wanted { missed: 0 };
-    judge_rows(&rows, &mut wanted);
-    judge_received(&rows, &early, &mut wanted);
+    judge_rows(&rows, wanted);
+    judge_received(&rows, &early, wanted);
     for held in &idle {
         wanted.at_most(&format!("octets of {}", held.name), held.ours.round(), MAX_IDLE);
     }
-    judge_limits(&rows, &limits, &mut wanted);
-    judge_growth(turns / 10 + 1, &mut wanted);
-    judge_reads(turns / 10 + 1, &mut wanted);
-    judge_pool(turns, &mut wanted);
-    judge_early(turns / 4 + 1, &mut wanted);
-    judge_lying(turns / 4 + 1, &mut wanted);
+    judge_limits(&rows, &limits, wanted);
+    judge_growth(turns / 10 + 1, wanted);
+    judge_reads(turns / 10 + 1, wanted);
+    judge_pool(turns, wanted);
+    judge_early(turns / 4 + 1, wanted);
+    judge_lying(turns / 4 + 1, wanted);
+}
+
+fn main() {
+    let mut words = std::env::args().skip(1).peekable();
+    let is_crc_alone = words.next_if(|word| word == "crc").is_some();
+    let turns = words.next().map_or(TURNS, |word| word.parse().expect("a number of turns"));
+    bit_by_bit::must_agree("ours", ours::crc32c);
+    bit_by_bit::must_agree("the peer's", peer::crc::crc32c);
+    let mut wanted = Wanted { missed: 0 };
+    if !is_crc_alone {
+        judge_all(turns, &mut wanted);
+    }
     judge_crc(turns, &mut wanted);
     std::process::exit(if wanted.missed == 0 { 0 } else { 1 });
 }
