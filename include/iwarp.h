@@ -435,7 +435,7 @@ int32_t iwarp_came(struct iwarp *handle, uint32_t stream, size_t n);
 enum {
     IWARP_IDLE = 0, /* nothing: there is nothing to do until more octets come or more is emitted */
     IWARP_DONE = 1, /* the oldest posted message is done: `message`, `token` */
-    IWARP_FLUSHED = 2, /* the stream has ended: the oldest posted message is given up: `message`, `token` */
+    IWARP_FLUSHED = 2, /* the stream has ended: the oldest posted message is given up: `message`, `token`; a later one may be done */
     IWARP_FLUSHED_RECV = 3, /* the stream has ended: its oldest receive buffer, of `len` octets, can be fetched */
     IWARP_ASKED = 4, /* the peer's MPA Request came: accept or reject it; iwarp_told tells what it asks for */
     IWARP_OPENED = 5, /* the peer accepted: `flags`, IWARP_SENDS_MARKERS and so on; `len` Reads may be outstanding */

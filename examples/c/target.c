@@ -195,6 +195,7 @@ static size_t gather(struct connection *connection, uint8_t **at) {
     do {
         must(iwarp_emit_onto(&end, connection->stream, &connection->frames, &emission), "emit_onto");
         must(iwarp_buffer_at(&connection->frames, at, &n), "buffer_at");
+        if (emission.kind == IWARP_DENIED) connection->failed = connection->ended = 1;
     } while (emission.kind != IWARP_NOTHING && n < WRITE);
     return n;
 }
@@ -252,8 +253,8 @@ static void take(struct connection *connection, int64_t now) {
         finish(connection);
         return;
     }
+    if (connection->shut) return; /* who sends on keeps it no longer open */
     connection->heard = now;
-    if (connection->shut) return;
     must(iwarp_came(&end, connection->stream, (size_t)n), "came");
     work(connection);
     go_on(connection, now);

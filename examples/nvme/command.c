@@ -168,7 +168,7 @@ static int fetch(struct command *command) {
         queue_close(queue);
         return 1;
     }
-    note(queue, (struct posted){.command = command});
+    note(queue, (struct posted){.message = IWARP_MESSAGE_READ, .command = command});
     queue->reads++;
     return 1;
 }
@@ -182,6 +182,14 @@ void command_fetched(struct command *command) {
     }
     command->sink = 0;
     command->operation->run(command);
+}
+
+void command_give_up(struct command *command) {
+    endpoint_drop(&command->queue->endpoint, command->sink);
+    command->sink = 0;
+    iwarp_buffer_free(&command->buffer);
+    command->queue->held -= command->size;
+    command->size = 0;
 }
 
 /* Returns 0 if the command has to wait. */
@@ -269,7 +277,7 @@ static int32_t write_data(struct command *command) {
     const uint8_t *sgl = command->sqe + SQE_SGL;
     uint32_t key = (uint32_t)field(sgl + SGL_KEY, 4);
     int32_t code = endpoint_write_buffer(&queue->endpoint, key, field(sgl + SGL_ADDRESS, 8), &command->buffer);
-    if (code == IWARP_OK) note(queue, (struct posted){.written = leave_buffer(command)});
+    if (code == IWARP_OK) note(queue, (struct posted){.message = IWARP_MESSAGE_WRITE, .written = leave_buffer(command)});
     return code;
 }
 
@@ -286,7 +294,7 @@ static int answer(struct command *command) {
     if (code == IWARP_OK) code = release(command);
     if (code == IWARP_OK) code = endpoint_send(&queue->endpoint, cqe, CQE_OCTETS, key);
     if (code == IWARP_OK)
-        note(queue, (struct posted){0});
+        note(queue, (struct posted){.message = IWARP_MESSAGE_SEND});
     else
         queue_close(queue);
     return 1;

@@ -4,7 +4,7 @@
  *
  * runs each test against the target at that port of this machine, and prints `TEST: ok`, or the line of this file at which it
  * failed, with status 1. OPTIONS is IWARP_CRC (2) or 0. */
-#include "host.h"
+#include "breaks.h"
 
 enum { MULPDU = 16384, TRANSFER = 131072, LONGEST = 1048576, MOST_HOSTS = 255, CONNECTS = 200, SILENT = 300 };
 
@@ -559,6 +559,106 @@ static void cut_short(void) {
     host_end(&host);
 }
 
+/* ---- connections that break while a command's data is awaited */
+
+enum { AWAITED = 65536, PART_OF_IT = 16370, BETWEEN = AWAITED / HOST_LBA, EARLIER = 64, PAGE = 4096 };
+
+/* Deallocates blocks, by a range in the host's memory. */
+static uint8_t *map_range(struct host_queue *queue, uint16_t slot, uint64_t from, uint32_t count) {
+    uint8_t *sqe = host_command(queue, slot, IO_DATASET_MANAGEMENT, NSID);
+    sqe[SQE_CDW11] = DSM_DEALLOCATE;
+    uint8_t *range = host_map(queue, slot, PAGE, SGL_KEYED);
+    memset(range, 0, PAGE);
+    set_field(range + RANGE_NLB, 4, count);
+    set_field(range + RANGE_SLBA, 8, from);
+    return range;
+}
+
+/* Submits the command of a slot whose data the target has to read, with a Flush behind it. The data stays away, or no more than a
+ * part of it comes; the Flush is answered; then the stream ends. */
+static void break_awaited(struct host *host, const uint8_t *data, size_t part, enum breaking how) {
+    struct host_queue *queue = host->queues[1];
+    struct asked asked;
+    host_submit(queue, 0);
+    host_command(queue, 1, IO_FLUSH, NSID);
+    host_submit(queue, 1);
+    CHECK(host_write_out(queue) && break_off(queue, &asked));
+    if (part > 0) break_answer(queue, &asked, data, part);
+    break_by(queue, how);
+    CHECK(break_is_seen(queue));
+    host_end(host);
+}
+
+/* A Write of which the host sends nothing, or a part, stores nothing of its own: the blocks are what they were, or have the part. */
+static void write_unanswered(uint64_t from, size_t part, enum breaking how) {
+    static uint8_t earlier[AWAITED], data[AWAITED];
+    struct host host = new_host();
+    CHECK(host_begin(&host, 1, HOST_DEPTH));
+    memset(earlier, 0xee, AWAITED);
+    CHECK(write_blocks(host.queues[1], EARLIER, earlier, AWAITED, SGL_KEYED) == 0); /* the target keeps the buffer */
+    fill(data, AWAITED, from + 1);
+    map_blocks(host.queues[1], 0, IO_WRITE, from, AWAITED, SGL_KEYED);
+    break_awaited(&host, data, part, how);
+}
+
+/* A deallocation of which the host sends nothing does nothing, and not an earlier one's work once more. */
+static void range_unanswered(uint64_t from, enum breaking how) {
+    static uint8_t data[AWAITED];
+    struct host host = new_host();
+    CHECK(host_begin(&host, 1, HOST_DEPTH));
+    map_range(host.queues[1], 0, from, BETWEEN);
+    CHECK(host_do(host.queues[1], 0) == 0);
+    fill(data, AWAITED, from);
+    CHECK(write_blocks(host.queues[1], from, data, AWAITED, SGL_KEYED_INVALIDATE) == 0);
+    map_range(host.queues[1], 0, EARLIER, 1);
+    break_awaited(&host, data, 0, how);
+}
+
+/* The key of a Write is wrong: the host's own library ends the connection. */
+static void write_with_wrong_key(uint64_t from) {
+    struct host host = new_host();
+    CHECK(host_begin(&host, 1, HOST_DEPTH));
+    struct host_queue *queue = host.queues[1];
+    map_blocks(queue, 0, IO_WRITE, from, AWAITED, SGL_KEYED);
+    set_field(queue->slots[0].capsule + SQE_SGL + SGL_KEY, 4, queue->slots[0].stag ^ 0x5a5a5a5a);
+    host_submit(queue, 0);
+    host_command(queue, 1, IO_FLUSH, NSID);
+    CHECK(host_do(queue, 1) == 0);
+    for (int i = 0; host_step(queue, 10); i++) CHECK(i < HOST_WAIT_MS / 10);
+    host_end(&host);
+}
+
+/* Whatever ends a stream while a command's data is awaited, the blocks stay as they were: each ending has some of its own. */
+static void ends_badly(void) {
+    static uint8_t before[AWAITED], now[AWAITED];
+    const uint64_t first = 4096;
+    uint64_t places = 0, from = first;
+    struct host host = new_host();
+    CHECK(host_begin(&host, 1, HOST_DEPTH));
+    for (; places < 3 * BREAKINGS + 1; places++) {
+        fill(before, AWAITED, first + places * BETWEEN);
+        CHECK(write_blocks(host.queues[1], first + places * BETWEEN, before, AWAITED, SGL_KEYED) == 0);
+    }
+    int breakings = options & IWARP_CRC ? BREAKINGS : BREAK_CRC;
+    for (int how = 0; how < breakings; how++) {
+        write_unanswered(from + (uint64_t)how * 3 * BETWEEN, 0, (enum breaking)how);
+        write_unanswered(from + ((uint64_t)how * 3 + 1) * BETWEEN, PART_OF_IT, (enum breaking)how);
+        range_unanswered(from + ((uint64_t)how * 3 + 2) * BETWEEN, (enum breaking)how);
+    }
+    write_with_wrong_key(from + 3 * BREAKINGS * BETWEEN);
+    let_go();
+    int changed = 0;
+    for (uint64_t i = 0; i < places; i++, from += BETWEEN) {
+        fill(before, AWAITED, from);
+        CHECK(read_blocks(host.queues[1], from, now, AWAITED, SGL_KEYED) == 0);
+        if (memcmp(before, now, AWAITED) == 0) continue;
+        printf("ending %d: the blocks from %d begin with %02x\n", (int)i, (int)from, now[0]);
+        changed++;
+    }
+    CHECK(changed == 0);
+    host_end(&host);
+}
+
 static const struct {
     const char *name;
     void (*run)(void);
@@ -572,6 +672,7 @@ static const struct {
     {"keeps-alive", keeps_alive}, {"silent-ones", silent_ones},
     {"slow-one", slow_one},       {"cut-short", cut_short},
     {"deallocates", deallocates}, {"many-addresses", many_addresses},
+    {"ends-badly", ends_badly},
 };
 
 int main(int n, char **words) {

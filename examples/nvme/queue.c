@@ -186,15 +186,24 @@ static void take_written(struct queue *queue, struct spare *written) {
     }
 }
 
-/* The oldest posted message is done. */
-static void take_done(struct queue *queue) {
+/* The oldest posted message is done or given up. Once a stream has ended, the library gives up each message that is not done, and
+ * still tells of a later one that it is: so each takes its entry off the list. What the host's data was awaited for runs if its
+ * Read is done and the stream has not ended. */
+static void take_posted(struct queue *queue, const struct iwarp_event *event) {
     struct posted posted = queue->posted[queue->first];
+    if (queue->count == 0 || posted.message != event->message) {
+        queue_close(queue);
+        return;
+    }
     queue->first = (queue->first + 1) % MOST_POSTED;
     queue->count--;
-    if (posted.command) {
+    if (posted.message == IWARP_MESSAGE_READ) {
         queue->reads--;
-        command_fetched(posted.command);
-    } else if (posted.written.size > 0) {
+        if (event->kind == IWARP_DONE && !queue->endpoint.ended)
+            command_fetched(posted.command);
+        else
+            command_give_up(posted.command);
+    } else if (posted.message == IWARP_MESSAGE_WRITE) {
         take_written(queue, &posted.written);
     }
 }
@@ -209,7 +218,8 @@ static void act(struct queue *queue, const struct iwarp_event *event) {
         take_capsule(queue);
         break;
     case IWARP_DONE:
-        take_done(queue);
+    case IWARP_FLUSHED:
+        take_posted(queue, event);
         break;
     case IWARP_FAULT:
     case IWARP_TERMINATED:

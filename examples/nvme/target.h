@@ -106,8 +106,9 @@ struct spare {
     enum direction direction;
 };
 
-/* What was posted, in order, until the library has handed it back: all 0 of a Send. */
+/* What was posted, in order, until the library has handed it back. */
 struct posted {
+    uint32_t message; /* IWARP_MESSAGE_SEND and so on */
     struct command *command; /* of a Read */
     struct spare written; /* the buffer of a Write, which has no octets until they come back */
 };
@@ -214,6 +215,7 @@ void command_complete(struct command *command, uint16_t status);
 void command_store(struct command *command, enum job_kind kind, uint64_t at, uint64_t n); /* has the store work on its data */
 void command_stored(struct job *job); /* the store has */
 void command_fetched(struct command *command); /* its Read is done */
+void command_give_up(struct command *command); /* its Read never is: it goes with its queue, and is not run */
 void command_keep(struct queue *queue, struct spare *spare); /* keeps a buffer for the queue's next commands */
 void command_free_spares(struct queue *queue);
 void command_forget(struct command *command); /* it is never answered */
