@@ -1,19 +1,31 @@
 /* A hostile host against the target, in one process:
  *
- *     fuzz CAPSULES [SEED]
+ *     fuzz CAPSULES [SEED [FILE]]
+ *     fuzz large [SEED [FILE]]
  *
  * sends capsules that are valid but for what was changed at random: fields of the command, its descriptor, the data in the
  * capsule, its length; Connects; start-up frames; Writes to the sinks of another host. What the target writes must lie where its
- * command said. The other host, which is honest, writes and reads all the while, and must not notice. */
-#include "host.h"
+ * command said. Each life of the host ends in some way: the connection is closed or reset, a Read of the target stays unanswered
+ * and a wrong frame comes, a key is wrong, the target is refused memory, its store fails. After each the whole disk is compared
+ * with a model (model.h). The other host, which is honest, writes and reads all the while, and must not notice.
+ *
+ * The disk is memory, or the file, which is made. `large` is 100,000 capsules and 1,000 lives over memory, and as many over the
+ * file, if one is named, else over memory once more. */
+#include "breaks.h"
+#include "model.h"
 #include "target.h"
 
-enum { DISK_MIB = 8, GUARDED = 65536, GUARD = 0xa5, BURST = 8, LIFE = 150, STEPS = 40 };
-enum { HOSTILE_DEPTH = 64, HONEST_OCTETS = 8192, HARMLESS = 13 };
+enum { DISK_MIB = 1, WORKERS = 2, GUARDED = 65536, GUARD = 0xa5, BURST = 8, LIFE = 90, STEPS = 40, PATIENT_STEPS = 3 };
+enum { HOSTILE_DEPTH = 64, HONEST_OCTETS = 8192, HARMLESS = 13, LARGE = 100000, LARGE_LIVES = 1000, WAITS = 20000, RARELY = 40 };
+
+/* How a life ends. */
+enum end { CLOSED_BY_HOST, RESET, UNANSWERED_READ, WRONG_KEY, NO_MEMORY, STORE_FAILS, ENDS };
 
 static struct target target;
+static struct model model;
 static uint64_t seed;
-static unsigned long sent, answered, successes, lives, ended;
+static unsigned long sent, answered, successes, lives, ended, looks, reads;
+static int patience; /* ms that a turn may wait */
 
 static uint32_t random_number(uint32_t below) {
     seed = seed * 6364136223846793005u + 1442695040888963407u;
@@ -24,17 +36,187 @@ static int one_in(uint32_t n) {
     return random_number(n) == 0;
 }
 
-static void turn(void) {
-    target_turn(&target, 0);
+static void die(const char *why) {
+    printf("after %lu capsules and %lu lives: %s\n", sent, lives, why);
+    exit(1);
 }
 
-static void die(const char *why) {
-    printf("after %lu capsules: %s\n", sent, why);
-    exit(1);
+/* ---- memory and a store that fail: one call in so many does, none if it is 0 */
+
+static _Atomic uint32_t memory_fails, store_fails, calls;
+static int in_turn; /* only the target's own calls fail */
+
+static int is_unlucky(uint32_t one_in_so_many) {
+    uint64_t number = one_in_so_many ? calls++ * 6364136223846793005u + 1442695040888963407u : 0;
+    return one_in_so_many && (number >> 33) % one_in_so_many == 0;
+}
+
+void *__real_malloc(size_t n);
+void *__real_calloc(size_t count, size_t n);
+void *__real_realloc(void *block, size_t n);
+ssize_t __real_pread(int fd, void *octets, size_t n, off_t at);
+ssize_t __real_pwrite(int fd, const void *octets, size_t n, off_t at);
+
+void *__wrap_malloc(size_t n) {
+    return in_turn && is_unlucky(memory_fails) ? 0 : __real_malloc(n);
+}
+
+void *__wrap_calloc(size_t count, size_t n) {
+    return in_turn && is_unlucky(memory_fails) ? 0 : __real_calloc(count, n);
+}
+
+void *__wrap_realloc(void *block, size_t n) {
+    return in_turn && is_unlucky(memory_fails) ? 0 : __real_realloc(block, n);
+}
+
+ssize_t __wrap_pread(int fd, void *octets, size_t n, off_t at) {
+    if (!is_unlucky(store_fails)) return __real_pread(fd, octets, n, at);
+    errno = EIO;
+    return -1;
+}
+
+/* What fails may be a part: whole blocks. */
+ssize_t __wrap_pwrite(int fd, const void *octets, size_t n, off_t at) {
+    if (!is_unlucky(store_fails)) return __real_pwrite(fd, octets, n, at);
+    if (n > LBA_OCTETS && calls % 2 == 0) return __real_pwrite(fd, octets, LBA_OCTETS, at);
+    errno = calls % 3 == 0 ? ENOSPC : EIO;
+    return -1;
+}
+
+static void turn(void) {
+    in_turn = 1;
+    if (!target_turn(&target, patience)) die("the target cannot go on");
+    in_turn = 0;
 }
 
 static struct host new_host(void) {
     return (struct host){.address = "127.0.0.1", .nqn = target.options.nqn, .port = target.port, .mulpdu = MOST_MULPDU, .turn = turn};
+}
+
+/* ---- the disk and its model */
+
+/* What a slot asks for: a change, by its number; a Read; or what must not succeed. */
+struct asks {
+    enum { NOTHING, CHANGES, READS, FAILS } kind;
+    size_t change;
+    uint64_t begun;
+};
+
+static struct asks asks[2][HOSTILE_DEPTH]; /* of the admin queue and the I/O queue */
+static int shared[2][HOSTILE_DEPTH]; /* the slot's region was named by another slot */
+static uint8_t regions[2][HOSTILE_DEPTH][GUARDED]; /* as they were when their commands were sent */
+
+static void look(void) {
+    static uint8_t disk[DISK_MIB << 20];
+    const uint8_t *octets = target.store.ram;
+    uint64_t n = target.store.blocks * LBA_OCTETS;
+    if (!octets && __real_pread(target.store.fd, disk, n, 0) != (ssize_t)n) die("the file cannot be read");
+    uint64_t block = model_look(&model, octets ? octets : disk);
+    if (block < model.blocks) {
+        const uint8_t *at = (octets ? octets : disk) + block * LBA_OCTETS;
+        printf("block %d begins with %02x %02x %02x %02x\n", (int)block, at[0], at[1], at[2], at[3]);
+        die("a block has what nobody sent for it");
+    }
+    looks++;
+}
+
+/* Waits until the target has only so many queues. */
+static void wait_for_queues(uint32_t count) {
+    patience = 1;
+    for (int i = 0; target.queues_made > count; i++) {
+        if (i == WAITS) die("connections are left");
+        turn();
+    }
+    patience = 0;
+}
+
+/* The region that a capsule names by its key. */
+static struct slot *named_region(const struct host_queue *queue, const uint8_t *sqe) {
+    uint32_t key = (uint32_t)field(sqe + SQE_SGL + SGL_KEY, 4);
+    for (uint16_t i = 0; key != 0 && i < queue->depth; i++)
+        if (queue->slots[i].stag == key) return &queue->slots[i];
+    return 0;
+}
+
+/* The n octets that a capsule describes, or null. */
+static const uint8_t *described(const struct host_queue *queue, const struct slot *slot, uint64_t n) {
+    const uint8_t *sqe = slot->capsule, *sgl = sqe + SQE_SGL;
+    uint64_t at = field(sgl + SGL_ADDRESS, 8);
+    if (sgl[SGL_TYPE] == SGL_DATA_OFFSET) {
+        uint64_t inside = slot->n - SQE_OCTETS;
+        return field(sgl + SGL_LENGTH, 4) == n && at <= inside && n <= inside - at ? sqe + SQE_OCTETS + at : 0;
+    }
+    const struct slot *region = named_region(queue, sqe);
+    if ((sgl[SGL_TYPE] != SGL_KEYED && sgl[SGL_TYPE] != SGL_KEYED_INVALIDATE) || field(sgl + SGL_LENGTH, 3) != n || !region) return 0;
+    return at >= region->base && at - region->base <= GUARDED && n <= GUARDED - (at - region->base) ? region->octets + (at - region->base) : 0;
+}
+
+/* Whether the data that a capsule describes lies in a region of another slot, so that nobody knows what it is. */
+static int is_foreign(const struct host_queue *queue, const struct slot *slot) {
+    const struct slot *region = named_region(queue, slot->capsule);
+    return slot->capsule[SQE_SGL + SGL_TYPE] != SGL_DATA_OFFSET && region && region != slot;
+}
+
+static int has_blocks(uint64_t from, uint64_t count) {
+    return from <= model.blocks && count <= model.blocks - from;
+}
+
+/* What a deallocation may clear. */
+static void note_ranges(const struct host_queue *queue, const struct slot *slot) {
+    uint32_t count = slot->capsule[SQE_CDW10] + 1u, n = (uint32_t)field(slot->capsule + SQE_SGL + SGL_LENGTH, 3);
+    const uint8_t *range = described(queue, slot, n);
+    struct change all = {.count = model.blocks, .any = 1};
+    if (!(slot->capsule[SQE_CDW11] & DSM_DEALLOCATE)) return;
+    if (is_foreign(queue, slot)) model_begin(&model, &all, 0);
+    if (is_foreign(queue, slot) || !range || n < count * RANGE_OCTETS) return;
+    for (; count > 0; count--, range += RANGE_OCTETS) {
+        struct change change = {.from = field(range + RANGE_SLBA, 8), .count = field(range + RANGE_NLB, 4)};
+        if (has_blocks(change.from, change.count)) model_begin(&model, &change, 0);
+    }
+}
+
+/* Notes what a capsule asks for, as it is sent. */
+static void note(const struct host_queue *queue, uint16_t number) {
+    const struct slot *slot = &queue->slots[number];
+    const uint8_t *sqe = slot->capsule;
+    struct asks *it = &asks[queue->id][number];
+    *it = (struct asks){NOTHING, 0, model.clock};
+    if (queue->id == 0 || slot->n < SQE_OCTETS) return;
+    struct change change = {.from = field(sqe + SQE_CDW10, 8), .count = (field(sqe + SQE_CDW12, 4) & RW_NLB) + 1};
+    change.any = sqe[SQE_OPCODE] == IO_WRITE && is_foreign(queue, slot);
+    const uint8_t *data = sqe[SQE_OPCODE] == IO_WRITE ? described(queue, slot, change.count * LBA_OCTETS) : 0;
+    if (sqe[SQE_OPCODE] == IO_DATASET_MANAGEMENT) note_ranges(queue, slot);
+    if (sqe[SQE_OPCODE] == IO_READ) it->kind = READS;
+    if (sqe[SQE_OPCODE] != IO_WRITE && sqe[SQE_OPCODE] != IO_WRITE_ZEROES) return;
+    it->kind = FAILS;
+    if (!has_blocks(change.from, change.count) || (sqe[SQE_OPCODE] == IO_WRITE && !data)) return;
+    it->kind = CHANGES;
+    it->change = model_begin(&model, &change, change.any ? 0 : data);
+}
+
+static int is_of_store(uint16_t status) {
+    return status == STATUS_WRITE_FAULT || status == STATUS_CAPACITY_EXCEEDED || status == STATUS_WRITE_PROTECTED;
+}
+
+/* A Read was answered with success: what it brought is what the blocks may have. */
+static void check_read(const struct host_queue *queue, const struct slot *slot, uint64_t begun) {
+    uint64_t from = field(slot->capsule + SQE_CDW10, 8), count = (field(slot->capsule + SQE_CDW12, 4) & RW_NLB) + 1;
+    const uint8_t *octets = described(queue, slot, count * LBA_OCTETS);
+    if (!has_blocks(from, count)) die("a Read beyond the disk succeeds");
+    if (!octets || is_foreign(queue, slot) || shared[queue->id][slot - queue->slots]) return;
+    if (!model_allows(&model, from, count, octets, begun)) die("a Read brings what the blocks cannot have");
+    reads++;
+}
+
+/* The capsule of a slot was answered. */
+static void note_answer(const struct host_queue *queue, uint16_t number) {
+    struct asks *it = &asks[queue->id][number];
+    const struct slot *slot = &queue->slots[number];
+    if (slot->in_hand || !slot->answered) return;
+    if (it->kind == FAILS && slot->status == 0) die("a write succeeds that has no data or no blocks");
+    if (it->kind == READS && slot->status == 0) check_read(queue, slot, it->begun);
+    if (it->kind == CHANGES) model_end(&model, it->change, slot->status == 0 ? SUCCEEDED : is_of_store(slot->status) ? FAILED : REFUSED);
+    it->kind = NOTHING;
 }
 
 /* ---- capsules */
@@ -73,6 +255,7 @@ static size_t choose_admin(uint8_t *sqe) {
 
 static size_t choose_io(uint8_t *sqe, uint64_t blocks) {
     uint32_t count = 1 + random_number(one_in(4) ? 120 : 8);
+    if (sqe[SQE_OPCODE] == IO_WRITE && one_in(8)) set_field(sqe + SQE_CDW12, 4, RW_FUA);
     if (sqe[SQE_OPCODE] == IO_FLUSH) return 0;
     if (sqe[SQE_OPCODE] == IO_DATASET_MANAGEMENT) {
         sqe[SQE_CDW10] = (uint8_t)random_number(8);
@@ -106,67 +289,127 @@ static void spoil(struct slot *slot) {
     }
 }
 
-/* Makes a capsule in a slot: its data in the capsule, or in the middle of a region whose other octets are guards. */
+/* Ranges of blocks that there are, mostly. */
+static void make_ranges(uint8_t *at, size_t n, uint64_t blocks) {
+    for (; n >= RANGE_OCTETS; at += RANGE_OCTETS, n -= RANGE_OCTETS) {
+        set_field(at + RANGE_NLB, 4, random_number(16));
+        set_field(at + RANGE_SLBA, 8, random_number((uint32_t)blocks - (one_in(50) ? 0 : 16)));
+    }
+}
+
+/* The data that the host has for the target. */
+static void make_data(struct host_queue *queue, const uint8_t *sqe, uint8_t *at, size_t n) {
+    if (queue->id == 1 && sqe[SQE_OPCODE] == IO_DATASET_MANAGEMENT)
+        make_ranges(at, n, queue->host->blocks);
+    else if (queue->id == 0 || sqe[SQE_OPCODE] == IO_WRITE)
+        for (size_t i = 0; i < n; i += 4) set_field(at + i, 4, random_number(UINT32_MAX));
+}
+
+/* Maps the slot's region: n octets in the middle of it are named, the others are guards. */
+static uint8_t *map_guarded(struct host_queue *queue, uint16_t slot, size_t n) {
+    struct slot *it = &queue->slots[slot];
+    memset(host_map(queue, slot, GUARDED, one_in(2) ? SGL_KEYED : SGL_KEYED_INVALIDATE), GUARD, GUARDED);
+    uint32_t from = random_number(GUARDED - (uint32_t)n + 1);
+    set_field(it->capsule + SQE_SGL + SGL_ADDRESS, 8, it->base + from);
+    set_field(it->capsule + SQE_SGL + SGL_LENGTH, 3, n);
+    return it->octets + from;
+}
+
+/* Makes a capsule in a slot: its data in the capsule, or in the slot's region. */
 static void make(struct host_queue *queue, uint16_t slot) {
     struct slot *it = &queue->slots[slot];
     const uint8_t *opcodes = queue->id == 0 ? admin_opcodes : io_opcodes;
     uint8_t *sqe = host_command(queue, slot, opcodes[random_number(8)], NSID), data[4096];
     size_t n = queue->id == 0 ? choose_admin(sqe) : choose_io(sqe, queue->host->blocks);
     if (n > 0 && n <= sizeof data && one_in(3)) {
-        for (size_t i = 0; i < n; i++) data[i] = (uint8_t)random_number(256);
+        make_data(queue, sqe, data, n);
         host_put(queue, slot, data, n);
     } else if (n > 0) {
-        memset(host_map(queue, slot, GUARDED, one_in(2) ? SGL_KEYED : SGL_KEYED_INVALIDATE), GUARD, GUARDED);
-        set_field(sqe + SQE_SGL + SGL_ADDRESS, 8, it->base + random_number(GUARDED - (uint32_t)n + 1));
-        set_field(sqe + SQE_SGL + SGL_LENGTH, 3, n);
+        uint8_t *named = map_guarded(queue, slot, n);
+        if (queue->id == 1) make_data(queue, sqe, named, n);
     }
     if (!one_in(4)) spoil(it);
 }
 
-/* Makes guards again of what a capsule names in a slot's region. */
-static void forget_named(const struct slot *region, uint32_t stag, const struct slot *slot) {
-    const uint8_t *sgl = slot->capsule + SQE_SGL;
-    uint64_t from = field(sgl + SGL_ADDRESS, 8) - region->base, n = field(sgl + SGL_LENGTH, 3);
-    if (slot->n < SQE_OCTETS || field(sgl + SGL_KEY, 4) != stag || from >= GUARDED) return;
-    memset(region->octets + from, GUARD, n < GUARDED - from ? n : GUARDED - from);
+/* Keeps what the slot's region has, which the target writes to only as the capsule says. What another slot's region has, that this
+ * capsule names, nobody knows from now on. */
+static void keep_region(const struct host_queue *queue, uint16_t slot) {
+    const struct slot *it = &queue->slots[slot], *named = named_region(queue, it->capsule);
+    shared[queue->id][slot] = 0;
+    if (it->stag) memcpy(regions[queue->id][slot], it->octets, GUARDED);
+    if (!named || named == it) return;
+    const struct asks *of_named = &asks[queue->id][named - queue->slots];
+    shared[queue->id][named - queue->slots] = 1;
+    if (of_named->kind == CHANGES) model.changes[of_named->change].any = 1;
 }
 
-/* Takes the slot's region back: only what a capsule names may have been written. A key that was spoiled can name the region of
- * another slot. */
+static void submit(struct host_queue *queue, uint16_t slot) {
+    keep_region(queue, slot);
+    note(queue, slot);
+    host_submit(queue, slot);
+    sent++;
+}
+
+/* Whether a command has the target write to the host's memory. */
+static int is_written_to(const struct host_queue *queue, const uint8_t *sqe) {
+    return queue->id == 0 || (sqe[SQE_OPCODE] != IO_WRITE && sqe[SQE_OPCODE] != IO_DATASET_MANAGEMENT);
+}
+
+/* Takes the slot's region back: only what its capsule names may have been written. */
 static void end(struct host_queue *queue, uint16_t slot) {
     struct slot *it = &queue->slots[slot];
+    const uint8_t *sgl = it->capsule + SQE_SGL, *was = regions[queue->id][slot];
     uint32_t stag = it->stag;
     size_t all;
     if (stag == 0) return;
     host_unmap(queue, slot);
     if (iwarp_buffer_at(&it->buffer, &it->octets, &all) != IWARP_OK) die("no buffer");
-    for (uint16_t i = 0; i < queue->depth; i++) forget_named(it, stag, &queue->slots[i]);
-    for (uint64_t i = 0; i < GUARDED; i++)
-        if (it->octets[i] != GUARD) die("the target has written outside");
+    if (shared[queue->id][slot]) return;
+    uint64_t from = field(sgl + SGL_ADDRESS, 8) - it->base, n = field(sgl + SGL_LENGTH, 3);
+    int names = it->n >= SQE_OCTETS && field(sgl + SGL_KEY, 4) == stag && from < GUARDED && is_written_to(queue, it->capsule);
+    if (!names) from = n = 0;
+    if (n > GUARDED - from) n = GUARDED - from;
+    if (memcmp(it->octets, was, from) != 0 || memcmp(it->octets + from + n, was + from + n, GUARDED - from - n) != 0)
+        die("the target has written outside");
 }
 
-/* Sends some capsules at a time, and waits for the answers for a while. */
-static void burst(struct host_queue *queue) {
-    uint16_t slots[BURST], count = 0;
-    for (uint16_t slot = 0; slot < queue->depth; slot++)
-        if (!queue->slots[slot].in_hand) end(queue, slot);
-    for (uint16_t slot = 0; slot < queue->depth && count < BURST; slot++) {
-        if (queue->slots[slot].in_hand) continue;
-        make(queue, slot);
-        host_submit(queue, slot);
-        slots[count++] = slot;
-        sent++;
-    }
-    if (count == 0) queue->ended = 1; /* all are Async Event Requests */
+/* Steps until all slots are answered, but not for long. */
+static void await_some(struct host_queue *queue, const uint16_t *slots, int count) {
     for (int i = 0, left = count; left > 0 && i < STEPS && host_step(queue, 0); i++) {
+        patience = i >= STEPS - PATIENT_STEPS;
         left = 0;
         for (int j = 0; j < count; j++) left += queue->slots[slots[j]].in_hand;
     }
+    patience = 0;
+    for (uint16_t slot = 0; slot < queue->depth; slot++) note_answer(queue, slot);
     for (int j = 0; j < count; j++) {
         const struct slot *slot = &queue->slots[slots[j]];
         answered += (unsigned)slot->answered;
         successes += slot->answered && slot->status == 0;
     }
+}
+
+/* Ends what was answered, and finds slots for what comes next. Returns how many. */
+static int free_slots(struct host_queue *queue, uint16_t *slots, int most) {
+    int count = 0;
+    for (uint16_t slot = 0; slot < queue->depth; slot++) {
+        if (queue->slots[slot].in_hand) continue;
+        end(queue, slot);
+        if (count < most) slots[count++] = slot;
+    }
+    return count;
+}
+
+/* Sends some capsules at a time, and waits for the answers for a while. */
+static void burst(struct host_queue *queue) {
+    uint16_t slots[BURST];
+    int count = free_slots(queue, slots, BURST);
+    for (int i = 0; i < count; i++) {
+        make(queue, slots[i]);
+        submit(queue, slots[i]);
+    }
+    if (count == 0) queue->ended = 1; /* all are Async Event Requests */
+    await_some(queue, slots, count);
 }
 
 /* ---- connections */
@@ -212,19 +455,101 @@ static void spoil_start(void) {
     close(fd);
 }
 
+/* ---- how a life ends */
+
+/* A Write of blocks, from a region of the slot. */
+static void make_write(struct host_queue *queue, uint16_t slot) {
+    uint32_t count = 1 + random_number(120);
+    host_blocks(host_command(queue, slot, IO_WRITE, NSID), random_number((uint32_t)queue->host->blocks - count), count);
+    make_data(queue, queue->slots[slot].capsule, map_guarded(queue, slot, count * LBA_OCTETS), count * LBA_OCTETS);
+}
+
+/* Some Writes whose data the target asks for and does not get, or not all of it; behind them commands that it answers; and then a
+ * frame that ends the stream. So what these Writes name stays as it is, and they are not noted. */
+static void leave_unanswered(struct host_queue *queue) {
+    uint16_t slots[BURST];
+    struct asked asked;
+    int count = free_slots(queue, slots, BURST), writes = 1 + (int)random_number(3);
+    for (int i = 0; i < count; i++) {
+        if (i < writes) {
+            make_write(queue, slots[i]);
+            keep_region(queue, slots[i]);
+            host_submit(queue, slots[i]);
+            sent++;
+        } else {
+            host_command(queue, slots[i], IO_FLUSH, NSID);
+            if (one_in(2)) host_blocks(host_command(queue, slots[i], IO_WRITE_ZEROES, NSID), random_number(64), 1 + random_number(8));
+            submit(queue, slots[i]);
+        }
+    }
+    patience = 1;
+    if (host_write_out(queue) && break_off(queue, &asked)) {
+        static const uint8_t part[GUARDED] = {0x77};
+        if (one_in(2) && asked.n > 1) break_answer(queue, &asked, part, 1 + random_number(asked.n - 1));
+        break_by(queue, (enum breaking)random_number(BREAKINGS));
+        if (!break_is_seen(queue)) die("a wrong frame does not end the connection");
+    }
+    patience = 0;
+    queue->ended = 1;
+}
+
+/* A Write whose key is wrong, with others around it: the host's library ends the connection. */
+static void spoil_key(struct host_queue *queue) {
+    uint16_t slots[BURST];
+    int count = free_slots(queue, slots, BURST);
+    for (int i = 0; i < count; i++) {
+        make_write(queue, slots[i]);
+        if (i == 1) set_field(queue->slots[slots[i]].capsule + SQE_SGL + SGL_KEY, 4, queue->slots[slots[i]].stag ^ 0x1234567);
+        submit(queue, slots[i]);
+    }
+    await_some(queue, slots, count);
+}
+
+static void reset(struct host_queue *queue) {
+    struct linger at_once = {1, 0};
+    uint16_t slots[BURST];
+    int count = free_slots(queue, slots, BURST);
+    for (int i = 0; i < count; i++) {
+        make_write(queue, slots[i]);
+        submit(queue, slots[i]);
+    }
+    for (uint32_t i = random_number(4); i > 0; i--) host_step(queue, 0);
+    setsockopt(queue->fd, SOL_SOCKET, SO_LINGER, &at_once, sizeof at_once);
+    close(queue->fd);
+    queue->fd = -1;
+}
+
+/* Goes on while memory, or the store, fails now and then. */
+static void fail_now_and_then(struct host *host, enum end how) {
+    if (how == NO_MEMORY) memory_fails = RARELY;
+    if (how == STORE_FAILS) store_fails = 3;
+    for (int i = 0; i < 4 && !host->queues[1]->ended; i++) burst(host->queues[1]);
+}
+
 /* The life of a hostile host. */
 static void live(void) {
     struct host host = new_host();
+    uint32_t queues = target.queues_made;
     if (!host_begin(&host, 1, HOSTILE_DEPTH)) die("a host is not served");
     for (int i = 0; i < LIFE / BURST; i++) {
         burst(host.queues[random_number(4) > 0]);
         if (host.queues[0]->ended || host.queues[1]->ended) break;
     }
+    enum end how = (enum end)random_number(ENDS);
+    struct host_queue *queue = host.queues[1];
+    int runs = !host.queues[0]->ended && !queue->ended;
+    if (runs && how == RESET) reset(queue);
+    if (runs && how == UNANSWERED_READ) leave_unanswered(queue);
+    if (runs && how == WRONG_KEY) spoil_key(queue);
+    if (runs && how >= NO_MEMORY) fail_now_and_then(&host, how);
     for (int id = 0; id < 2; id++)
         for (uint16_t slot = 0; slot < host.queues[id]->depth; slot++) end(host.queues[id], slot);
     lives++;
-    ended += host.queues[0]->ended || host.queues[1]->ended;
+    ended += host.queues[0]->ended || queue->ended || how == RESET;
     host_end(&host);
+    wait_for_queues(queues);
+    memory_fails = store_fails = 0;
+    look();
 }
 
 /* ---- the honest host */
@@ -259,35 +584,71 @@ static void reach(struct host_queue *honest) {
 
 static void check_honest(struct host *honest) {
     struct host_queue *queue = honest->queues[1];
-    uint64_t from = random_number((uint32_t)honest->blocks - HONEST_OCTETS / LBA_OCTETS);
+    struct change change = {.count = HONEST_OCTETS / LBA_OCTETS};
+    change.from = random_number((uint32_t)(honest->blocks - change.count));
+    uint64_t from = change.from;
     host_blocks(host_command(queue, 0, IO_WRITE, NSID), from, HONEST_OCTETS / LBA_OCTETS);
     uint8_t *out = host_map(queue, 0, HONEST_OCTETS, SGL_KEYED_INVALIDATE);
     for (size_t i = 0; i < HONEST_OCTETS; i++) out[i] = (uint8_t)random_number(256);
+    size_t number = model_begin(&model, &change, out);
     host_submit(queue, 0);
     reach(queue);
+    patience = 1;
     if (host_await(queue, 0) != 0) die("the honest host cannot write");
+    model_end(&model, number, SUCCEEDED);
     host_blocks(host_command(queue, 1, IO_READ, NSID), from, HONEST_OCTETS / LBA_OCTETS);
     const uint8_t *in = host_map(queue, 1, HONEST_OCTETS, SGL_KEYED_INVALIDATE);
     if (host_do(queue, 1) != 0 || memcmp(in, out, HONEST_OCTETS) != 0) die("the honest host reads something else");
+    patience = 0;
+    look();
 }
 
-int main(int n, char **words) {
+/* ---- runs */
+
+static void make_file(const char *path) {
+    int fd = open(path, O_RDWR | O_CREAT | O_TRUNC | O_CLOEXEC, 0600);
+    if (fd < 0 || ftruncate(fd, (DISK_MIB << 20) + LBA_OCTETS - 1) != 0) {
+        perror(path);
+        exit(1);
+    }
+    close(fd);
+}
+
+/* Sends so many capsules in at least so many lives, to a target over a new file, or over memory if the path is null. */
+static void run(unsigned long capsules, unsigned long least_lives, const char *path) {
     struct options options = {.address = "127.0.0.1", .nqn = "nqn.2026-11.example:fuzzed", .serial = "1", .ram_mib = DISK_MIB,
-        .workers = 1, .start_ms = 10000, .stall_ms = 30000};
-    unsigned long most = n > 1 ? (unsigned long)strtoull(words[1], 0, 10) : 10000;
-    seed = n > 2 ? strtoull(words[2], 0, 10) : 1;
-    if (!target_open(&target, &options)) return 1;
+        .workers = WORKERS, .start_ms = 10000, .stall_ms = 30000, .file = path};
+    if (path) make_file(path);
+    if (!target_open(&target, &options)) exit(1);
+    model_open(&model, target.store.blocks);
     struct host honest = new_host();
     if (!host_begin(&honest, 1, HOST_DEPTH)) die("the honest host is not served");
-    while (sent < most) {
+    unsigned long sent_before = sent, lives_before = lives;
+    while (sent - sent_before < capsules || lives - lives_before < least_lives) {
         live();
         spoil_connect();
         spoil_start();
+        wait_for_queues(2);
         check_honest(&honest);
     }
     host_end(&honest);
     target_close(&target);
     if (target.queues) die("connections are left");
-    printf("%lu capsules of %lu hosts, %lu of them ended; %lu answered, %lu with success\n", sent, lives, ended, answered, successes);
+    model_close(&model);
+}
+
+int main(int n, char **words) {
+    int is_large = n > 1 && strcmp(words[1], "large") == 0;
+    const char *path = n > 3 ? words[3] : 0;
+    seed = n > 2 ? strtoull(words[2], 0, 10) : 1;
+    signal(SIGPIPE, SIG_IGN);
+    if (is_large) {
+        run(LARGE, LARGE_LIVES, 0);
+        run(LARGE, LARGE_LIVES, path);
+    } else {
+        run(n > 1 ? (unsigned long)strtoull(words[1], 0, 10) : 10000, 0, path);
+    }
+    printf("%lu capsules of %lu hosts, %lu of them ended; %lu answered, %lu with success; %lu Reads and %lu times the disk compared\n",
+           sent, lives, ended, answered, successes, reads, looks);
     return 0;
 }
