@@ -136,8 +136,9 @@ int target_open(struct target *target, const struct options *options) {
     memset(target, 0, sizeof *target);
     target->options = *options;
     target->now = target->looked = now_ms();
-    if (!store_open(&target->store, options->file, options->ram_mib << 20, (int)options->workers)) {
-        perror(options->file ? options->file : "memory for the store");
+    const char *why = store_open(&target->store, options);
+    if (why) {
+        fprintf(stderr, "%s: %s\n", options->file ? options->file : "memory for the store", why);
         return 0;
     }
     if (endpoint_handle(&target->handle, MOST_DOMAINS) != IWARP_OK) {
@@ -153,11 +154,12 @@ int target_open(struct target *target, const struct options *options) {
     return 1;
 }
 
-void target_close(struct target *target) {
+int target_close(struct target *target) {
     close(target->listener);
     for (struct queue *it = target->queues; it; it = it->next) queue_close(it);
     while (target->queues && target_turn(target, 0)) {
     }
     close(target->epoll);
     iwarp_free(&target->handle);
+    return store_close(&target->store);
 }

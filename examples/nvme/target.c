@@ -1,12 +1,13 @@
 /* The target's options. `target --help` tells them. */
 #include "target.h"
 
-enum { MOST_RAM_MIB = 1 << 20, MOST_WORKERS = 64, MOST_SECONDS = 86400, OTHER_FILES = 64, FILES = MOST_QUEUES + OTHER_FILES };
+enum { MOST_RAM_MIB = 1 << 20, MOST_SECONDS = 86400, OTHER_FILES = 64, FILES = MOST_QUEUES + OTHER_FILES };
 
 static const char help[] =
     "A disk for NVMe over RDMA hosts: target [OPTION VALUE].. [FLAG]..\n"
     "\n"
     "  --file PATH      the disk: a file or block device, of which whole blocks of 512 octets are used\n"
+    "  --read-only      the file is not written, and hosts are told so\n"
     "  --ram MIB        the disk: memory (the default, 64)\n"
     "  --address A      the IPv4 address to listen at (127.0.0.1)\n"
     "  --port N         the port; 0: any that is free, which the first line tells (4420)\n"
@@ -23,8 +24,10 @@ static const char help[] =
     "It takes hosts of 255 addresses at once, and 255 hosts, each with at most 7 I/O queues of depth 128. A connection takes at most\n"
     "6 MiB: 4 for its commands' data, 1 for capsules, and 1 for the library.\n";
 
-static int fail(const char *word) {
-    fprintf(stderr, "target: %s\n%s", word, help);
+static const char *program = "target";
+
+static int fail(const char *what, const char *word) {
+    fprintf(stderr, "%s: %s: %s (--help tells the options)\n", program, word, what);
     return 2;
 }
 
@@ -78,10 +81,16 @@ static void allow_files(void) {
     setrlimit(RLIMIT_NOFILE, &files);
 }
 
+static void name_program(const char *word) {
+    for (program = word; *word; word++)
+        if (word[0] == '/') program = word + 1;
+}
+
 int main(int n, char **words) {
     static struct target target;
     struct options options = {.address = "127.0.0.1", .nqn = "nqn.2026-11.example:iwarp", .serial = "1", .ram_mib = 64, .port = 4420,
         .workers = 4, .start_ms = 10000, .stall_ms = 30000};
+    if (n > 0) name_program(words[0]);
     for (int i = 1; i < n; i++) {
         if (strcmp(words[i], "--help") == 0) {
             fputs(help, stdout);
@@ -91,11 +100,14 @@ int main(int n, char **words) {
             options.options |= IWARP_CRC;
         else if (strcmp(words[i], "--verbose") == 0)
             options.verbose = 1;
+        else if (strcmp(words[i], "--read-only") == 0)
+            options.read_only = 1;
         else if (!take(&options, words[i], i + 1 < n ? words[i + 1] : 0))
-            return fail(words[i]);
+            return fail("no such option, or a wrong value", words[i]);
         else
             i++;
     }
+    if (options.read_only && !options.file) return fail("only of a --file", "--read-only");
     keep_memory();
     signal(SIGPIPE, SIG_IGN);
     signal(SIGXFSZ, SIG_IGN); /* a file that cannot grow fails the command */

@@ -24,6 +24,8 @@ enum {
     MOST_STARTING = 256, /* connections that have not got as far as Connect: of more, the oldest is closed */
     MOST_QUEUES = MOST_CONTROLLERS * DOMAIN_QUEUES + MOST_STARTING,
     MOST_ASYNC_EVENTS = 4,
+    MOST_WORKERS = 64,
+    MIB = 1 << 20,
     KEEP_ALIVE_UNIT = 1000 /* ms */
 };
 
@@ -41,19 +43,37 @@ struct job {
     uint16_t status;
 };
 
+/* Jobs that threads are to do. */
+struct jobs {
+    struct job *first, **last;
+    pthread_cond_t more;
+    int ends; /* no more come */
+};
+
 struct store {
     uint64_t blocks;
     uint8_t *ram; /* the octets, or null if there is a file */
     int fd, read_only;
+    _Atomic int failed; /* what was written may be lost */
     int told; /* an eventfd: jobs are done */
-    pthread_mutex_t mutex; /* of the two lists */
-    pthread_cond_t more;
-    struct job *first, **last; /* to be done, by a worker */
+    pthread_mutex_t memory; /* of `ram` */
+    pthread_mutex_t mutex; /* of the lists */
+    struct jobs to_do; /* for the workers */
+    struct jobs unsynced; /* done but for what makes them durable */
     struct job *done;
+    pthread_t threads[1 + MOST_WORKERS]; /* the first makes durable, the others are workers */
+    int thread_count;
 };
 
-/* Opens a file or block device, or takes memory if the path is null, and starts workers. Returns whether it could. */
-int store_open(struct store *store, const char *path, uint64_t ram_octets, int workers);
+struct options;
+
+/* Opens the file or block device that the options name, or takes memory if they name none, and starts workers. Returns why it
+ * cannot, or null. */
+const char *store_open(struct store *store, const struct options *options);
+
+/* Has the workers finish what was begun, makes it durable, and closes. Returns whether all that was answered with success and was
+ * to be durable is so. */
+int store_close(struct store *store);
 
 /* Begins a job. Returns 1 if it is done; else a worker does it, and store_done gives it back. */
 int store_begin(struct store *store, struct job *job);
@@ -172,6 +192,7 @@ struct options {
     const char *file, *address, *told_address, *nqn, *serial;
     uint64_t ram_mib;
     unsigned port, options, mulpdu, workers, verbose;
+    int read_only;
     uint64_t start_ms, stall_ms;
 };
 
@@ -198,8 +219,8 @@ int target_open(struct target *target, const struct options *options);
  * cannot go on. */
 int target_turn(struct target *target, int most_ms);
 
-/* Ends all connections. */
-void target_close(struct target *target);
+/* Ends all connections, and closes the store. Returns whether what was written is durable. */
+int target_close(struct target *target);
 
 /* queue.c */
 struct queue *queue_open(struct target *target, int fd, uint32_t address);
