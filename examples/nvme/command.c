@@ -77,6 +77,9 @@ void command_begin(struct command *command, size_t n) {
     }
     struct controller *controller = command->queue->controller;
     if (controller) controller->heard = command->queue->target->now;
+    command->number = command->queue->came++;
+    command->queue->begun++;
+    command->then = 0;
     command->inside = n - SQE_OCTETS;
     command->direction = NO_DATA;
     command->length = 0;
@@ -153,11 +156,10 @@ static void note(struct queue *queue, struct posted posted) {
     queue->posted[(queue->first + queue->count++) % MOST_POSTED] = posted;
 }
 
-/* Has the host's data read into the buffer. Returns 0 if it has to wait for other Reads to end. */
-static int fetch(struct command *command) {
+/* Has the host's data read into the buffer. */
+static void fetch(struct command *command) {
     struct queue *queue = command->queue;
     const uint8_t *sgl = command->sqe + SQE_SGL;
-    if (queue->reads >= queue->most_reads || queue->count == MOST_POSTED) return 0;
     struct endpoint *endpoint = &queue->endpoint;
     int32_t code = endpoint_sink(endpoint, &command->buffer, &command->sink);
     if (code == IWARP_OK) {
@@ -166,11 +168,10 @@ static int fetch(struct command *command) {
     }
     if (code != IWARP_OK) {
         queue_close(queue);
-        return 1;
+        return;
     }
     note(queue, (struct posted){.message = IWARP_MESSAGE_READ, .command = command});
     queue->reads++;
-    return 1;
 }
 
 void command_fetched(struct command *command) {
@@ -192,21 +193,40 @@ void command_give_up(struct command *command) {
     command->size = 0;
 }
 
-/* Returns 0 if the command has to wait. */
-static int start(struct command *command) {
-    if (command->direction == FROM_HOST && data_type(command) == SGL_DATA_OFFSET) {
+/* Begins a command. What needs a buffer waits for it in a list, and a Write for a Read's place too; nothing waits for these. */
+static void start(struct command *command) {
+    struct queue *queue = command->queue;
+    if (command->direction == TO_HOST) {
+        append(&queue->reading, command);
+    } else if (command->direction == NO_DATA) {
+        command->operation->run(command);
+    } else if (data_type(command) == SGL_DATA_OFFSET) {
         command->data = command->sqe + SQE_OCTETS + field(command->sqe + SQE_SGL + SGL_ADDRESS, 8);
-    } else if (command->direction == FROM_HOST) {
-        if (command->queue->most_reads == 0) {
-            command_complete(command, invalid(STATUS_DATA_TRANSFER_ERROR));
-            return 1;
-        }
-        return has_buffer(command) && fetch(command);
-    } else if (command->direction == TO_HOST && !has_buffer(command)) {
-        return 0;
+        command->operation->run(command);
+    } else if (queue->most_reads == 0) {
+        command_complete(command, invalid(STATUS_DATA_TRANSFER_ERROR));
+    } else {
+        append(&queue->fetching, command);
     }
-    command->operation->run(command);
-    return 1;
+}
+
+/* Which list's first command is to have a buffer next: the older one, but for a Write that has no place for its Read. */
+static struct list *next_for_buffer(struct queue *queue) {
+    int has_place = queue->reads < queue->most_reads && queue->count < MOST_POSTED;
+    const struct command *reads = queue->reading.first, *writes = has_place ? queue->fetching.first : 0;
+    if (writes && (!reads || writes->number < reads->number)) return &queue->fetching;
+    return reads ? &queue->reading : 0;
+}
+
+static void give_buffers(struct queue *queue) {
+    for (struct list *list; queue->state != CLOSED && (list = next_for_buffer(queue)) && has_buffer(list->first);) {
+        struct command *command = list->first;
+        take_first(list);
+        if (command->direction == FROM_HOST)
+            fetch(command);
+        else
+            command->operation->run(command);
+    }
 }
 
 /* ---- the store */
@@ -219,6 +239,12 @@ struct queue *queue_of_job(struct job *job) {
     return command_of(job)->queue;
 }
 
+/* Its job is done. The controller may have gone meanwhile. */
+static void take_stored(struct command *command) {
+    if (command->then && command->job.status == STATUS_SUCCESS && command->queue->controller) command->then(command);
+    command_complete(command, command->job.status);
+}
+
 void command_store(struct command *command, enum job_kind kind, uint64_t at, uint64_t n) {
     struct job *job = &command->job;
     job->kind = kind;
@@ -226,7 +252,7 @@ void command_store(struct command *command, enum job_kind kind, uint64_t at, uin
     job->n = n;
     job->octets = command->data;
     if (store_begin(&command->queue->target->store, job))
-        command_complete(command, job->status);
+        take_stored(command);
     else
         command->queue->jobs++;
 }
@@ -234,7 +260,7 @@ void command_store(struct command *command, enum job_kind kind, uint64_t at, uin
 void command_stored(struct job *job) {
     struct command *command = command_of(job);
     command->queue->jobs--;
-    command_complete(command, job->status);
+    take_stored(command);
 }
 
 /* ---- responses */
@@ -264,6 +290,7 @@ static int32_t release(struct command *command) {
     command->sqe = 0;
     command->next = queue->idle;
     queue->idle = command;
+    queue->begun--;
     return endpoint_receive(&queue->endpoint, &command->capsule);
 }
 
@@ -305,12 +332,9 @@ void commands_go_on(struct queue *queue) {
     while (queue->state != CLOSED && queue->starting.first) {
         struct command *command = queue->starting.first;
         take_first(&queue->starting);
-        if (start(command)) continue;
-        command->next = queue->starting.first; /* it stays the first */
-        if (!queue->starting.first) queue->starting.last = &command->next;
-        queue->starting.first = command;
-        break;
+        start(command);
     }
+    give_buffers(queue);
     while (queue->state != CLOSED && queue->answering.first && answer(queue->answering.first)) {
     }
 }

@@ -179,17 +179,31 @@ static void set_configuration(struct controller *controller, uint32_t configurat
         controller->state = 0;
         controller->events = 0;
     }
-    if (configuration & CC_SHN && !(was & CC_SHN)) controller->state |= CSTS_SHUTDOWN_DONE;
-    if (!(configuration & CC_SHN)) controller->state &= ~(uint32_t)CSTS_SHUTDOWN_DONE;
+    if (!(configuration & CC_SHN)) controller->state &= ~(uint32_t)CSTS_SHUTDOWN;
 }
 
+static void shut_down(struct command *command) {
+    struct controller *controller = command->queue->controller;
+    controller->state = (controller->state & ~(uint32_t)CSTS_SHUTDOWN) | CSTS_SHUTDOWN_DONE;
+}
+
+/* A shutdown is over, and its command answered, once what was written is durable. */
 static void run_set(struct command *command) {
     int size = command->sqe[PROPERTY_ATTRIB] & ATTRIB_SIZE;
-    if (size == ATTRIB_FOUR && field(command->sqe + PROPERTY_OFFSET, 4) == PROPERTY_CC) {
-        set_configuration(command->queue->controller, (uint32_t)field(command->sqe + PROPERTY_VALUE, 4));
-        command_complete(command, STATUS_SUCCESS);
-    } else {
+    struct controller *controller = command->queue->controller;
+    uint32_t configuration = (uint32_t)field(command->sqe + PROPERTY_VALUE, 4);
+    if (size != ATTRIB_FOUR || field(command->sqe + PROPERTY_OFFSET, 4) != PROPERTY_CC) {
         command_complete(command, invalid(STATUS_INVALID_FIELD));
+        return;
+    }
+    int shuts_down = configuration & CC_SHN && !(controller->configuration & CC_SHN);
+    set_configuration(controller, configuration);
+    if (shuts_down) {
+        controller->state |= CSTS_SHUTDOWN_GOES_ON;
+        command->then = shut_down;
+        command_store(command, JOB_FLUSH, 0, 0);
+    } else {
+        command_complete(command, STATUS_SUCCESS);
     }
 }
 

@@ -1,7 +1,8 @@
 /* The event loop: connections, what they can read and write, jobs that are done, and times that are over. */
 #include "target.h"
 
-enum { MOST_EVENTS = 64, LOOK_MS = 200, DRAIN_MS = 2000, BACKLOG = 128 };
+enum { MOST_EVENTS = 64, MOST_ACCEPTS = 64, LOOK_MS = 200, REST_MS = 500, DRAIN_MS = 2000, BACKLOG = 128 };
+enum { PROBES = 3, LONGEST_KEEPALIVE = 32767 }; /* the system's limit, in seconds */
 
 static uint64_t now_ms(void) {
     struct timespec time;
@@ -16,26 +17,67 @@ static int watch(struct target *target, int fd, void *as) {
 
 /* ---- connections */
 
-/* Closes the connection that has been starting for the longest time. */
+/* Closes the oldest of those that have not got as far as Connect, or drain. */
 static void close_oldest(struct target *target) {
     struct queue *oldest = 0;
     for (struct queue *it = target->queues; it; it = it->next)
-        if (it->state == AWAITS_REQUEST || it->state == AWAITS_CONNECT) oldest = it;
+        if (queue_is_starting(it->state)) oldest = it;
     if (oldest) queue_close(oldest);
 }
 
-static void accept_all(struct target *target) {
+static void set_seconds(int fd, int option, uint64_t ms) {
+    int seconds = ms < 1000 ? 1 : ms / 1000 > LONGEST_KEEPALIVE ? LONGEST_KEEPALIVE : (int)(ms / 1000);
+    setsockopt(fd, IPPROTO_TCP, option, &seconds, sizeof seconds);
+}
+
+/* A host that is gone without a word has its connection ended by the system, as one that takes nothing has by look_at_times. */
+static void set_options(const struct target *target, int fd) {
+    uint64_t ms = target->options.stall_ms;
+    unsigned most_ms = (unsigned)ms;
+    int one = 1, probes = PROBES;
+    setsockopt(fd, IPPROTO_TCP, TCP_NODELAY, &one, sizeof one);
+    setsockopt(fd, SOL_SOCKET, SO_KEEPALIVE, &one, sizeof one);
+    set_seconds(fd, TCP_KEEPIDLE, ms / 2);
+    set_seconds(fd, TCP_KEEPINTVL, ms / 2 / PROBES);
+    setsockopt(fd, IPPROTO_TCP, TCP_KEEPCNT, &probes, sizeof probes);
+    setsockopt(fd, IPPROTO_TCP, TCP_USER_TIMEOUT, &most_ms, sizeof most_ms);
+}
+
+static void begin(struct target *target, int fd, uint32_t address) {
+    if (target->starting >= MOST_STARTING) close_oldest(target);
+    set_options(target, fd);
+    struct queue *queue = queue_open(target, fd, address);
+    if (!queue)
+        close(fd);
+    else if (!watch(target, fd, queue))
+        queue_close(queue);
+}
+
+/* The listener is readable all the while that the system has no descriptor for a connection, so it is not watched for a moment. */
+static void rest(struct target *target) {
+    epoll_ctl(target->epoll, EPOLL_CTL_DEL, target->listener, 0);
+    target->rests_until = target->now + REST_MS;
+}
+
+static void end_rest(struct target *target) {
+    if (target->rests_until == 0 || target->now < target->rests_until || target->ends_at) return;
+    target->rests_until = watch(target, target->listener, &target->listener) ? 0 : target->now + REST_MS;
+}
+
+/* Takes what has connected, but no more than some, so that others have their turn. */
+static void accept_some(struct target *target) {
     struct sockaddr_in from;
     socklen_t n = sizeof from;
-    int one = 1;
-    for (int fd; (fd = accept4(target->listener, (struct sockaddr *)&from, &n, SOCK_NONBLOCK | SOCK_CLOEXEC)) >= 0;) {
-        if (target->starting >= MOST_STARTING) close_oldest(target);
-        setsockopt(fd, IPPROTO_TCP, TCP_NODELAY, &one, sizeof one);
-        struct queue *queue = queue_open(target, fd, from.sin_addr.s_addr);
-        if (!queue)
-            close(fd);
-        else if (!watch(target, fd, queue))
-            queue_close(queue);
+    for (int i = 0; i < MOST_ACCEPTS; i++) {
+        int fd = accept4(target->listener, (struct sockaddr *)&from, &n, SOCK_NONBLOCK | SOCK_CLOEXEC);
+        if (fd >= 0) {
+            begin(target, fd, from.sin_addr.s_addr);
+        } else if (errno == EMFILE || errno == ENFILE || errno == ENOBUFS || errno == ENOMEM) {
+            rest(target);
+            return;
+        } else if (errno == EAGAIN) {
+            return;
+        }
     }
 }
 
@@ -71,10 +113,20 @@ static int is_over(const struct queue *queue) {
     return 0;
 }
 
+/* Whether commands wait for memory, perhaps with nothing under way that would have them go on. */
+static int waits(const struct queue *queue) {
+    return queue->state != CLOSED && (queue->reading.first || queue->fetching.first);
+}
+
 static void look_at_times(struct target *target) {
     target->looked = target->now;
-    for (struct queue *it = target->queues; it; it = it->next)
-        if (is_over(it)) queue_close(it);
+    end_rest(target);
+    for (struct queue *it = target->queues; it; it = it->next) {
+        if (is_over(it))
+            queue_close(it);
+        else if (waits(it))
+            queue_run(it);
+    }
     for (struct controller *it = target->controllers; it < target->controllers + MOST_CONTROLLERS; it++)
         if (it->id != 0 && it->keep_alive != 0 && target->now - it->heard > it->keep_alive) {
             if (target->options.verbose) printf("controller %d: no keep alive\n", it->id);
@@ -92,12 +144,22 @@ static void take_jobs(struct target *target) {
     }
 }
 
+/* Takes no more connections and commands. */
+static void begin_end(struct target *target) {
+    if (target->ends_at) return;
+    target->ends_at = target->now + target->options.stall_ms;
+    close(target->listener);
+    epoll_ctl(target->epoll, EPOLL_CTL_DEL, target->stop, 0);
+}
+
 static void take_event(struct target *target, const struct epoll_event *event) {
     struct queue *queue = event->data.ptr;
     if (event->data.ptr == &target->listener) {
-        accept_all(target);
+        if (!target->ends_at) accept_some(target);
     } else if (event->data.ptr == &target->store) {
         take_jobs(target);
+    } else if (event->data.ptr == &target->stop) {
+        begin_end(target);
     } else if (queue->state != CLOSED) {
         if (event->events & ~(uint32_t)EPOLLOUT)
             queue_readable(queue);
@@ -106,23 +168,45 @@ static void take_event(struct target *target, const struct epoll_event *event) {
     }
 }
 
-int target_turn(struct target *target, int most_ms) {
+/* Has those go on that had more to send than a turn allows. */
+static void send_again(struct target *target) {
+    target->again = 0;
+    for (struct queue *it = target->queues; it; it = it->next) {
+        if (!it->again || it->state == CLOSED) continue;
+        it->again = 0;
+        queue_run(it);
+    }
+}
+
+static int turn(struct target *target, int most_ms) {
     struct epoll_event events[MOST_EVENTS];
-    if (target->queues && (most_ms < 0 || most_ms > LOOK_MS)) most_ms = LOOK_MS;
+    int is_timed = target->queues || target->rests_until;
+    if (is_timed && (most_ms < 0 || most_ms > LOOK_MS)) most_ms = LOOK_MS;
+    if (target->again) most_ms = 0;
     int n = epoll_wait(target->epoll, events, MOST_EVENTS, most_ms);
     if (n < 0 && errno != EINTR) return 0;
     target->now = now_ms();
+    target->turns++;
+    if (target->again) send_again(target);
     for (int i = 0; i < n; i++) take_event(target, &events[i]);
     if (target->now - target->looked >= LOOK_MS) look_at_times(target);
+    for (struct queue *it = target->ends_at ? target->queues : 0; it; it = it->next) queue_finish(it);
     if (target->sweep) sweep(target);
     return 1;
+}
+
+int target_turn(struct target *target, int most_ms) {
+    return turn(target, most_ms) && (!target->ends_at || (target->queues && target->now < target->ends_at));
 }
 
 static int begin_listening(struct target *target) {
     struct sockaddr_in address = {.sin_family = AF_INET, .sin_port = htons((unsigned short)target->options.port)};
     socklen_t n = sizeof address;
     int one = 1;
-    if (inet_pton(AF_INET, target->options.address, &address.sin_addr) != 1) return 0;
+    if (inet_pton(AF_INET, target->options.address, &address.sin_addr) != 1) {
+        errno = EINVAL;
+        return 0;
+    }
     target->listener = socket(AF_INET, SOCK_STREAM | SOCK_NONBLOCK | SOCK_CLOEXEC, 0);
     if (target->listener < 0) return 0;
     setsockopt(target->listener, SOL_SOCKET, SO_REUSEADDR, &one, sizeof one);
@@ -146,20 +230,22 @@ int target_open(struct target *target, const struct options *options) {
         return 0;
     }
     target->epoll = epoll_create1(EPOLL_CLOEXEC);
+    target->stop = eventfd(0, EFD_NONBLOCK | EFD_CLOEXEC);
     if (target->epoll < 0 || !begin_listening(target) || !watch(target, target->listener, &target->listener) ||
-        !watch(target, target->store.told, &target->store)) {
-        perror(options->address);
+        !watch(target, target->store.told, &target->store) || !watch(target, target->stop, &target->stop)) {
+        fprintf(stderr, "%s, port %u: %s\n", options->address, options->port, strerror(errno));
         return 0;
     }
     return 1;
 }
 
 int target_close(struct target *target) {
-    close(target->listener);
+    if (!target->ends_at) close(target->listener);
     for (struct queue *it = target->queues; it; it = it->next) queue_close(it);
-    while (target->queues && target_turn(target, 0)) {
+    while (target->queues && turn(target, 1)) {
     }
     close(target->epoll);
+    close(target->stop);
     iwarp_free(&target->handle);
     return store_close(&target->store);
 }

@@ -76,7 +76,7 @@ enum { PROPERTY_CAP = 0x00, PROPERTY_VS = 0x08, PROPERTY_CC = 0x14, PROPERTY_CST
 enum { VERSION_1_3 = 0x10300 };
 enum { CAP_CQR = 1 << 16, CAP_TO = 24, CAP_CSS_NVM = 37 }; /* TO and CSS by their first bit; TO is in units of 500 ms */
 enum { CC_ENABLE = 1, CC_CSS = 0x70, CC_MPS = 0x780, CC_AMS = 0x3800, CC_SHN = 0xc000, CC_IOSQES = 16, CC_IOCQES = 20, CC_ENTRY = 0xf };
-enum { CSTS_READY = 1, CSTS_FATAL = 2, CSTS_SHUTDOWN_DONE = 8 };
+enum { CSTS_READY = 1, CSTS_FATAL = 2, CSTS_SHUTDOWN = 0xc, CSTS_SHUTDOWN_GOES_ON = 4, CSTS_SHUTDOWN_DONE = 8 };
 enum { SQES_64 = 6, CQES_16 = 4 };
 
 /* Identify: what is asked for (CNS), and fields of the controller and of the namespace. */

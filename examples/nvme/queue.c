@@ -1,10 +1,14 @@
 /* A queue: one connection, from its MPA Request to its end. */
 #include "target.h"
 
+/* Whether a connection is one of those of which there are at most MOST_STARTING: it serves no host, or no longer. */
+int queue_is_starting(enum queue_state state) {
+    return state == AWAITS_REQUEST || state == AWAITS_CONNECT || state == DRAINS;
+}
+
 void queue_enter(struct queue *queue, enum queue_state state) {
-    int was_starting = queue->state == AWAITS_REQUEST || queue->state == AWAITS_CONNECT;
-    int is_starting = state == AWAITS_REQUEST || state == AWAITS_CONNECT;
-    if (was_starting && !is_starting) queue->target->starting--;
+    if (queue_is_starting(queue->state)) queue->target->starting--;
+    if (queue_is_starting(state)) queue->target->starting++;
     queue->state = state;
     queue->since = queue->target->now;
 }
@@ -82,6 +86,8 @@ struct queue *queue_open(struct target *target, int fd, uint32_t address) {
     queue->state = AWAITS_REQUEST;
     queue->since = queue->moved = target->now;
     queue->starting.last = &queue->starting.first;
+    queue->reading.last = &queue->reading.first;
+    queue->fetching.last = &queue->fetching.first;
     queue->answering.last = &queue->answering.first;
     queue->next = target->queues;
     queue->link = &target->queues;
@@ -215,7 +221,7 @@ static void act(struct queue *queue, const struct iwarp_event *event) {
         answer_request(queue);
         break;
     case IWARP_RECEIVED:
-        take_capsule(queue);
+        if (queue->target->ends_at == 0) take_capsule(queue);
         break;
     case IWARP_DONE:
     case IWARP_FLUSHED:
@@ -257,11 +263,23 @@ static void set_blocked(struct queue *queue, int blocked) {
     epoll_ctl(queue->target->epoll, EPOLL_CTL_MOD, queue->fd, &event);
 }
 
-/* Writes out what is due, as far as the socket takes it. Returns whether it took all, and there was something. */
+/* Whether it may send more in this turn of the loop. If not, it goes on in the next. */
+static int has_its_turn(struct queue *queue) {
+    if (queue->turn != queue->target->turns) {
+        queue->turn = queue->target->turns;
+        queue->sent = 0;
+    }
+    queue->again = queue->sent >= MOST_SENT;
+    if (queue->again) queue->target->again = 1;
+    return !queue->again;
+}
+
+/* Writes out what is due, as far as the socket takes it and it has its turn. Returns whether all was written, and there was
+ * something. */
 static int write_out(struct queue *queue) {
     uint8_t *at;
     size_t n;
-    for (int any = 0;; any = 1) {
+    for (int any = 0; has_its_turn(queue); any = 1) {
         if (endpoint_due(&queue->endpoint, &at, &n) != IWARP_OK) {
             queue_close(queue);
             return 0;
@@ -273,6 +291,7 @@ static int write_out(struct queue *queue) {
         ssize_t went = send(queue->fd, at, n, MSG_NOSIGNAL);
         if (went > 0) {
             queue->moved = queue->target->now;
+            queue->sent += (size_t)went;
             endpoint_wrote(&queue->endpoint, (size_t)went);
         } else if (went < 0 && errno == EAGAIN) {
             set_blocked(queue, 1);
@@ -282,6 +301,7 @@ static int write_out(struct queue *queue) {
             return 0;
         }
     }
+    return 0;
 }
 
 /* The stream has ended, and its last frame is written: ends the output, and waits for the peer to close, so that it gets that. */
@@ -298,7 +318,21 @@ void queue_run(struct queue *queue) {
         commands_go_on(queue);
         went = queue->state != CLOSED && write_out(queue);
     }
-    if (queue->state != CLOSED && queue->endpoint.ended && !queue->blocked) drain(queue);
+    if (queue->state != CLOSED && queue->endpoint.ended && !queue->blocked && !queue->again) drain(queue);
+}
+
+/* An admin queue goes after its controller's other queues, which end with it. */
+static int has_io_queues(const struct queue *queue) {
+    for (int i = 1; queue->controller && queue->id == 0 && i <= MOST_IO_QUEUES; i++)
+        if (queue->controller->io[i]) return 1;
+    return 0;
+}
+
+void queue_finish(struct queue *queue) {
+    if (queue->state == AWAITS_REQUEST || queue->state == AWAITS_CONNECT)
+        queue_close(queue);
+    else if (queue->state == CONNECTED && queue->begun == 0 && !queue->blocked && !queue->again && !has_io_queues(queue))
+        drain(queue);
 }
 
 void queue_readable(struct queue *queue) {

@@ -81,6 +81,17 @@ static void allow_files(void) {
     setrlimit(RLIMIT_NOFILE, &files);
 }
 
+/* A first SIGTERM or SIGINT has the target end in good order, a second ends it at once. */
+static int stop_by;
+
+static void stop(int number) {
+    uint64_t one = 1;
+    int error = errno;
+    signal(number, SIG_DFL);
+    (void)!write(stop_by, &one, sizeof one);
+    errno = error;
+}
+
 static void name_program(const char *word) {
     for (program = word; *word; word++)
         if (word[0] == '/') program = word + 1;
@@ -115,6 +126,10 @@ int main(int n, char **words) {
     if (!target_open(&target, &options)) return 1;
     printf("port %u\n%llu blocks of %d octets, %s\n", target.port, (unsigned long long)target.store.blocks, LBA_OCTETS, options.nqn);
     fflush(stdout);
+    stop_by = target.stop;
+    signal(SIGTERM, stop);
+    signal(SIGINT, stop);
     while (target_turn(&target, -1)) fflush(stdout);
-    return 1;
+    int told = target.ends_at != 0;
+    return target_close(&target) && told ? 0 : 1;
 }

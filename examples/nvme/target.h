@@ -7,6 +7,7 @@
 #include "nvme.h"
 
 enum {
+    MIB = 1 << 20,
     LBA_OCTETS = 512,
     LBA_SHIFT = 9,
     QUEUE_DEPTH = 128, /* commands that an I/O queue takes, and the host's default */
@@ -21,11 +22,11 @@ enum {
     MOST_CONTROLLERS = 255,
     MOST_IO_QUEUES = 7, /* of a controller */
     DOMAIN_QUEUES = 1 + MOST_IO_QUEUES, /* of 128 commands, each of which may have a region: a domain has 1,024 */
-    MOST_STARTING = 256, /* connections that have not got as far as Connect: of more, the oldest is closed */
+    MOST_STARTING = 256, /* connections that have not got as far as Connect, or drain: of more, the oldest is closed */
     MOST_QUEUES = MOST_CONTROLLERS * DOMAIN_QUEUES + MOST_STARTING,
     MOST_ASYNC_EVENTS = 4,
+    MOST_SENT = MIB, /* octets, of a queue in a turn of the loop, and what is gathered then */
     MOST_WORKERS = 64,
-    MIB = 1 << 20,
     KEEP_ALIVE_UNIT = 1000 /* ms */
 };
 
@@ -111,6 +112,8 @@ struct command {
     uint32_t sink; /* the buffer's STag, while the host's data is read; else 0 */
     uint16_t status;
     uint64_t result;
+    uint64_t number; /* of those that came at its queue */
+    void (*then)(struct command *command); /* if not null: what follows once the store has done its job with success */
 };
 
 /* The oldest first. */
@@ -146,6 +149,9 @@ struct queue {
     uint64_t since; /* when the state began, in ms */
     uint64_t moved; /* when octets were last written, or nothing was due */
     int blocked; /* octets are due, and the socket takes none */
+    int again; /* octets are due, and it has sent as many as it may in a turn */
+    uint64_t turn; /* when it sent last */
+    size_t sent; /* octets, in that turn */
     uint16_t id, told_id; /* by Connect; by the MPA Request */
     uint16_t depth, head; /* entries of the submission queue; where its head is */
     int no_flow; /* the host does not want to know the head */
@@ -153,7 +159,11 @@ struct queue {
     uint32_t commands_made;
     struct command *commands;
     struct command *idle;
-    struct list starting; /* wait for memory, or for a Read's place */
+    uint64_t came; /* commands */
+    uint32_t begun; /* those that are not answered */
+    struct list starting; /* have just come */
+    struct list reading; /* wait for a buffer */
+    struct list fetching; /* wait for a Read's place, and a buffer */
     struct list answering; /* wait for the places of their messages */
     struct posted posted[MOST_POSTED];
     uint32_t first, count; /* of those */
@@ -200,12 +210,17 @@ struct target {
     struct options options;
     struct store store;
     int epoll, listener;
+    int stop; /* an eventfd: once it is written to, the target ends */
     unsigned port;
     uint64_t now; /* ms */
+    uint64_t turns; /* of the loop */
+    int again; /* a queue has more to send */
+    uint64_t rests_until; /* the listener, as there is no descriptor left; 0: it does not */
+    uint64_t ends_at; /* the target ends: what was begun has until then; 0: it does not end */
     struct iwarp handle; /* of all queues */
     struct domain domains[MOST_DOMAINS + 1]; /* by number, from 1 */
     struct queue *queues; /* the newest first */
-    uint32_t queues_made, starting; /* queues; those that have not got as far as Connect */
+    uint32_t queues_made, starting; /* queues; those that have not got as far as Connect, or drain */
     int sweep; /* a queue was closed, and is to be freed */
     uint64_t looked; /* when times were last looked at */
     uint16_t last_id;
@@ -216,7 +231,8 @@ struct target {
 int target_open(struct target *target, const struct options *options);
 
 /* Waits for what happens next, at most `most_ms` (-1: for as long as it takes), and does what there is to do. Returns 0 if it
- * cannot go on. */
+ * cannot go on, or has ended as it was told to: by a write to `stop`. Then it takes no connections and no commands, and what was
+ * begun has as long as a host has to take what is sent to it. */
 int target_turn(struct target *target, int most_ms);
 
 /* Ends all connections, and closes the store. Returns whether what was written is durable. */
@@ -226,6 +242,8 @@ int target_close(struct target *target);
 struct queue *queue_open(struct target *target, int fd, uint32_t address);
 void queue_readable(struct queue *queue);
 void queue_run(struct queue *queue); /* does all that can be done now */
+int queue_is_starting(enum queue_state state);
+void queue_finish(struct queue *queue); /* the target ends: closes it, or has it drain once all that was begun is answered */
 void queue_enter(struct queue *queue, enum queue_state state);
 void queue_close(struct queue *queue); /* its memory stays until queue_free */
 void queue_free(struct queue *queue);
