@@ -3,8 +3,11 @@
  *     exercise PORT OPTIONS TEST..
  *
  * runs each test against the target at that port of this machine, and prints `TEST: ok`, or the line of this file at which it
- * failed, with status 1. OPTIONS is IWARP_CRC (2) or 0. */
+ * failed, with status 1. OPTIONS is IWARP_CRC (2) or 0. Some tests need the target's process in the environment, as TARGET, and
+ * those with a target that is killed a file that keeps what the disk may have, as MODEL. */
 #include "breaks.h"
+
+#include <dirent.h>
 
 enum { MULPDU = 16384, TRANSFER = 131072, LONGEST = 1048576, MOST_HOSTS = 255, CONNECTS = 200, SILENT = 300 };
 
@@ -503,6 +506,17 @@ static int plain_connection(void) {
     return fd;
 }
 
+/* Sends an octet at a time to connections that were shut for what they said, until none of them is there. */
+static void trickle(const int *fds) {
+    int open = 1;
+    for (int i = 0; open && i < 100; i++) {
+        open = 0;
+        for (int at = 1; at < SILENT; at += 3) open += send(fds[at], "x", 1, MSG_NOSIGNAL) == 1;
+        usleep(50000);
+    }
+    CHECK(!open);
+}
+
 /* Connections that say nothing, or nonsense, hold up nobody, and are closed after a while. */
 static void silent_ones(void) {
     static const char begun[] = "MPA ID Req Fra", other[] = "GET / HTTP/1.1\r\nHost: a.disk\r\n\r\n";
@@ -516,6 +530,7 @@ static void silent_ones(void) {
     }
     CHECK(host_begin(&host, 1, HOST_DEPTH));
     CHECK(read_blocks(host.queues[1], 0, in, sizeof in, SGL_KEYED_INVALIDATE) == 0);
+    trickle(fds);
     for (int i = 0; i < SILENT; i++) {
         struct pollfd polled = {fds[i], POLLIN, 0};
         CHECK(poll(&polled, 1, 6000) == 1); /* it is closed */
@@ -659,6 +674,303 @@ static void ends_badly(void) {
     host_end(&host);
 }
 
+/* ---- what wears a target down */
+
+static int target_process(void) {
+    const char *text = getenv("TARGET");
+    CHECK(text);
+    return (int)strtol(text, 0, 10);
+}
+
+/* How many files the target has open. */
+static int open_files(void) {
+    char path[64];
+    int count = 0;
+    snprintf(path, sizeof path, "/proc/%d/fd", target_process());
+    DIR *folder = opendir(path);
+    CHECK(folder);
+    while (readdir(folder)) count++;
+    closedir(folder);
+    return count;
+}
+
+/* The processor's time that the target has used, in ms. */
+static long used_ms(void) {
+    char path[64], line[1024];
+    unsigned long user = 0, system = 0;
+    snprintf(path, sizeof path, "/proc/%d/stat", target_process());
+    FILE *file = fopen(path, "r");
+    CHECK(file && fgets(line, sizeof line, file));
+    fclose(file);
+    const char *rest = strrchr(line, ')');
+    CHECK(rest && sscanf(rest + 1, " %*c %*d %*d %*d %*d %*d %*u %*u %*u %*u %*u %lu %lu", &user, &system) == 2);
+    return (long)(user + system) * 1000 / sysconf(_SC_CLK_TCK);
+}
+
+/* Connections that were shut, and that their host leaves open, count among those that have not got as far as Connect. */
+static void drains(void) {
+    enum { SHUT = 600, MOST_SHUT = 256, OTHERS = 64 };
+    static const char other[] = "GET / HTTP/1.1\r\nHost: a.disk\r\n\r\n";
+    static int fds[SHUT];
+    int most = 0;
+    for (int i = 0; i < SHUT; i++) {
+        fds[i] = plain_connection();
+        CHECK(send(fds[i], other, sizeof other - 1, MSG_NOSIGNAL) > 0);
+        int now = i % 50 == 49 ? open_files() : 0;
+        if (now > most) most = now;
+    }
+    CHECK(most <= MOST_SHUT + OTHERS);
+    for (int i = 0; i < SHUT; i++) close(fds[i]);
+}
+
+/* The target has no descriptor for all that connect: it rests meanwhile, and goes on once there is one. */
+static void few_files(void) {
+    enum { CALLERS = 100 };
+    static int fds[CALLERS];
+    for (int i = 0; i < CALLERS; i++) fds[i] = plain_connection();
+    usleep(100000);
+    long before = used_ms();
+    usleep(1000000);
+    CHECK(used_ms() - before < 300);
+    for (int i = 0; i < CALLERS; i++) close(fds[i]);
+    compares();
+}
+
+/* A Write that waits for a Read's place, as the host answers none, holds up no command behind it. */
+static void passes_by(void) {
+    struct host host = new_host();
+    struct asked asked;
+    CHECK(host_begin(&host, 1, HOST_DEPTH));
+    struct host_queue *queue = host.queues[1];
+    for (uint16_t slot = 0; slot < 2 * MOST_READS; slot++) {
+        map_blocks(queue, slot, IO_WRITE, slot, HOST_LBA, SGL_KEYED);
+        host_submit(queue, slot);
+    }
+    host_command(queue, HOST_DEPTH - 1, IO_FLUSH, NSID);
+    host_submit(queue, HOST_DEPTH - 1);
+    CHECK(host_write_out(queue) && break_off(queue, &asked));
+    CHECK(asked.reads == MOST_READS);
+    host_end(&host);
+}
+
+/* The system watches whether an idle host is still there: the timer of its connection is that of keepalive. */
+static void watches_over(void) {
+    struct host host = new_host();
+    char line[256];
+    int found = 0;
+    CHECK(host_begin(&host, 1, HOST_DEPTH));
+    usleep(300000);
+    FILE *file = fopen("/proc/net/tcp", "r");
+    CHECK(file);
+    while (fgets(line, sizeof line, file)) {
+        unsigned here, state, timer;
+        if (sscanf(line, " %*d: %*x:%x %*x:%*x %x %*x:%*x %x:", &here, &state, &timer) != 3) continue;
+        found += here == port && state == 1 && timer == 2;
+    }
+    fclose(file);
+    CHECK(found == 2);
+    host_end(&host);
+}
+
+/* Shuts the controller down, which is over once the answer is there. */
+static void shuts_down(void) {
+    struct host host = new_host();
+    CHECK(host_begin(&host, 1, HOST_DEPTH));
+    uint8_t *sqe = host_command(host.queues[0], 0, OPCODE_FABRICS, FABRICS_PROPERTY_SET);
+    set_field(sqe + PROPERTY_OFFSET, 4, PROPERTY_CC);
+    set_field(sqe + PROPERTY_VALUE, 8, CC_ENABLE | 1 << 14 | SQES_64 << CC_IOSQES | CQES_16 << CC_IOCQES);
+    CHECK(host_do(host.queues[0], 0) == 0);
+    sqe = host_command(host.queues[0], 0, OPCODE_FABRICS, FABRICS_PROPERTY_GET);
+    set_field(sqe + PROPERTY_OFFSET, 4, PROPERTY_CSTS);
+    CHECK(host_do(host.queues[0], 0) == 0);
+    CHECK((host.queues[0]->slots[0].result & CSTS_SHUTDOWN) == CSTS_SHUTDOWN_DONE);
+    host_end(&host);
+}
+
+/* ---- who may not */
+
+static void is_not_allowed(void) {
+    struct host host = new_host();
+    CHECK(host_open(&host, 0, 32) && host_connect(&host, 0) == (STATUS_CONNECT_HOST | STATUS_DO_NOT_RETRY));
+    host_end(&host);
+    host.nqn = DISCOVERY_NQN;
+    CHECK(host_open(&host, 0, 32) && host_connect(&host, 0) == (STATUS_CONNECT_HOST | STATUS_DO_NOT_RETRY));
+    host_end(&host);
+}
+
+static void is_read_only(void) {
+    static uint8_t octets[4096];
+    const int protected = STATUS_WRITE_PROTECTED | STATUS_DO_NOT_RETRY;
+    struct host host = new_host();
+    CHECK(host_begin(&host, 1, HOST_DEPTH));
+    CHECK(read_blocks(host.queues[1], 0, octets, sizeof octets, SGL_KEYED) == 0);
+    CHECK(write_blocks(host.queues[1], 0, octets, sizeof octets, SGL_KEYED) == protected);
+    host_blocks(host_command(host.queues[1], 0, IO_WRITE_ZEROES, NSID), 0, 1);
+    CHECK(host_do(host.queues[1], 0) == protected);
+    host_command(host.queues[1], 0, IO_FLUSH, NSID);
+    CHECK(host_do(host.queues[1], 0) == 0);
+    host_end(&host);
+}
+
+/* ---- a target that is killed, or told to end, while it works */
+
+enum { VERSIONED = 4096, IN_HAND = 16, LONGEST_RUN = 40, KILL_AFTER = 300 };
+
+/* A block has the version that was answered with success last, or the one that was asked for last; 0: zeroes. At most one Write of a
+ * block is under way. */
+static struct {
+    uint32_t sure[VERSIONED], asked[VERSIONED], rounds;
+} disk_model;
+
+static struct {
+    uint32_t from, count; /* 0: a Flush, or nothing */
+} runs[3][IN_HAND];
+
+static uint64_t mark_of(uint32_t block, uint32_t version) {
+    return (uint64_t)version << 32 | (block + 1);
+}
+
+static void load_model(void) {
+    const char *path = getenv("MODEL");
+    CHECK(path);
+    FILE *file = fopen(path, "r");
+    if (file) CHECK(fread(&disk_model, sizeof disk_model, 1, file) == 1);
+    if (file) fclose(file);
+    seed = ++disk_model.rounds;
+}
+
+static void save_model(void) {
+    FILE *file = fopen(getenv("MODEL"), "w");
+    CHECK(file && fwrite(&disk_model, sizeof disk_model, 1, file) == 1 && fclose(file) == 0);
+}
+
+/* Whether each block has what it may have. Which of the two it has is known then. */
+static void stands_by(void) {
+    static uint8_t wanted[HOST_LBA], zeroes[HOST_LBA], in[LONGEST_RUN * HOST_LBA];
+    struct host host = new_host();
+    load_model();
+    CHECK(host_begin(&host, 1, HOST_DEPTH));
+    for (uint32_t block = 0; block < VERSIONED; block++) {
+        const uint8_t *at = in + block % 32 * HOST_LBA;
+        if (block % 32 == 0) CHECK(read_blocks(host.queues[1], block, in, 32 * HOST_LBA, SGL_KEYED) == 0);
+        uint32_t version = (uint32_t)(field(at, 8) >> 32);
+        fill(wanted, HOST_LBA, mark_of(block, version));
+        CHECK(version == disk_model.sure[block] || version == disk_model.asked[block]);
+        CHECK(memcmp(at, version == 0 ? zeroes : wanted, HOST_LBA) == 0);
+        disk_model.sure[block] = disk_model.asked[block] = version;
+    }
+    save_model();
+    host_end(&host);
+}
+
+/* Whether a Write of these blocks is under way. */
+static int is_under_way(uint32_t from, uint32_t count) {
+    for (int i = 0; i < 3 * IN_HAND; i++) {
+        uint32_t first = runs[i / IN_HAND][i % IN_HAND].from, end = first + runs[i / IN_HAND][i % IN_HAND].count;
+        if (first < end && first < from + count && from < end) return 1;
+    }
+    return 0;
+}
+
+/* Writes a run of blocks anew, or flushes. */
+static void begin_run(struct host_queue *queue, uint16_t slot) {
+    uint32_t count = 1 + random_number(LONGEST_RUN), from = random_number(VERSIONED - LONGEST_RUN);
+    static uint8_t inside[4096];
+    host_command(queue, slot, IO_FLUSH, NSID);
+    runs[queue->id][slot].count = 0;
+    if (random_number(8) > 0 && !is_under_way(from, count)) {
+        int is_inside = count * HOST_LBA <= sizeof inside && random_number(2) == 0;
+        uint8_t *at = is_inside ? inside : map_blocks(queue, slot, IO_WRITE, from, count * HOST_LBA, SGL_KEYED_INVALIDATE);
+        for (uint32_t i = 0; i < count; i++) fill(at + i * HOST_LBA, HOST_LBA, mark_of(from + i, ++disk_model.asked[from + i]));
+        if (is_inside) host_blocks(host_command(queue, slot, IO_WRITE, NSID), from, count);
+        if (is_inside) host_put(queue, slot, inside, count * HOST_LBA);
+        if (random_number(8) == 0) queue->slots[slot].capsule[SQE_CDW12 + 3] |= RW_FUA >> 24;
+        runs[queue->id][slot].from = from;
+        runs[queue->id][slot].count = count;
+    }
+    host_submit(queue, slot);
+}
+
+static void end_run(struct host_queue *queue, uint16_t slot) {
+    host_unmap(queue, slot);
+    CHECK(queue->slots[slot].status == 0);
+    for (uint32_t i = 0; i < runs[queue->id][slot].count; i++) {
+        uint32_t block = runs[queue->id][slot].from + i;
+        disk_model.sure[block] = disk_model.asked[block];
+    }
+    runs[queue->id][slot].count = 0;
+    queue->slots[slot].answered = 0;
+}
+
+/* Takes the answers that came. Returns how many. */
+static int take_answers(struct host_queue *queue) {
+    int count = 0;
+    for (uint16_t slot = 0; slot < IN_HAND; slot++) {
+        if (!queue->slots[slot].answered) continue;
+        end_run(queue, slot);
+        count++;
+    }
+    return count;
+}
+
+/* Writes by two queues, and sends the target a signal in the middle. Returns how many answers came after it. */
+static int write_until(struct host *host, int number) {
+    int answers = 0, late = 0, goes_on = 1;
+    load_model();
+    CHECK(host_begin(host, 2, HOST_DEPTH));
+    while (goes_on) {
+        int was_sent = answers >= KILL_AFTER;
+        for (uint16_t id = 1; id <= 2; id++) {
+            for (uint16_t slot = 0; !was_sent && slot < IN_HAND; slot++)
+                if (!host->queues[id]->slots[slot].in_hand) begin_run(host->queues[id], slot);
+            goes_on = host_step(host->queues[id], 1) && goes_on;
+            int more = take_answers(host->queues[id]);
+            answers += more;
+            late += was_sent ? more : 0;
+        }
+        if (!was_sent && answers >= KILL_AFTER) CHECK(kill(target_process(), number) == 0);
+    }
+    for (uint16_t id = 1; id <= 2; id++) {
+        for (int i = 0; i < 1000 && host_step(host->queues[id], 1); i++) late += take_answers(host->queues[id]);
+        late += take_answers(host->queues[id]);
+    }
+    save_model();
+    return late;
+}
+
+static void is_killed(void) {
+    struct host host = new_host();
+    write_until(&host, SIGKILL);
+    host_end(&host);
+}
+
+/* A target that is told to end answers what it has begun: a Write whose data it awaits, too. */
+static void is_stopped(void) {
+    static uint8_t data[TRANSFER];
+    struct host host = new_host(), slow = new_host();
+    CHECK(host_begin(&slow, 1, HOST_DEPTH));
+    fill(data, TRANSFER, 77);
+    memcpy(map_blocks(slow.queues[1], 0, IO_WRITE, VERSIONED, TRANSFER, SGL_KEYED), data, TRANSFER);
+    host_submit(slow.queues[1], 0);
+    CHECK(host_write_out(slow.queues[1]));
+    CHECK(write_until(&host, SIGTERM) > 0);
+    CHECK(host_await(slow.queues[1], 0) == 0);
+    for (int i = 0; host_step(slow.queues[1], 10); i++) CHECK(i < 500);
+    host_end(&host);
+    host_end(&slow);
+}
+
+/* What is_stopped wrote is there. */
+static void was_stopped(void) {
+    static uint8_t data[TRANSFER], in[TRANSFER];
+    struct host host = new_host();
+    CHECK(host_begin(&host, 1, HOST_DEPTH));
+    fill(data, TRANSFER, 77);
+    CHECK(read_blocks(host.queues[1], VERSIONED, in, TRANSFER, SGL_KEYED) == 0 && memcmp(in, data, TRANSFER) == 0);
+    host_end(&host);
+    stands_by();
+}
+
 static const struct {
     const char *name;
     void (*run)(void);
@@ -672,7 +984,12 @@ static const struct {
     {"keeps-alive", keeps_alive}, {"silent-ones", silent_ones},
     {"slow-one", slow_one},       {"cut-short", cut_short},
     {"deallocates", deallocates}, {"many-addresses", many_addresses},
-    {"ends-badly", ends_badly},
+    {"ends-badly", ends_badly},   {"drains", drains},
+    {"few-files", few_files},     {"passes-by", passes_by},
+    {"shuts-down", shuts_down},   {"watches-over", watches_over},
+    {"is-killed", is_killed},     {"stands-by", stands_by},
+    {"is-stopped", is_stopped},   {"was-stopped", was_stopped},
+    {"read-only", is_read_only},  {"not-allowed", is_not_allowed},
 };
 
 int main(int n, char **words) {

@@ -106,6 +106,13 @@ static void connect_io(struct command *command, uint16_t id) {
     }
 }
 
+/* Whether a host may connect that says to have this name. */
+static int is_allowed(const struct options *options, const uint8_t *name) {
+    for (unsigned i = 0; i < options->allowed_count; i++)
+        if (is_text(name, options->allowed[i])) return 1;
+    return options->allowed_count == 0;
+}
+
 /* The data of a Connect is there. */
 static void run_connect(struct command *command) {
     struct queue *queue = command->queue;
@@ -123,6 +130,8 @@ static void run_connect(struct command *command) {
         refuse(command, INVALID_IN_DATA | CONNECT_SUBNQN);
     } else if (command->data[CONNECT_HOSTNQN] == 0 || !memchr(command->data + CONNECT_HOSTNQN, 0, NQN_OCTETS)) {
         refuse(command, INVALID_IN_DATA | CONNECT_HOSTNQN);
+    } else if (!is_allowed(options, command->data + CONNECT_HOSTNQN)) {
+        command_complete(command, invalid(STATUS_CONNECT_HOST));
     } else {
         if (id == 0)
             connect_admin(command, discovery);

@@ -17,9 +17,11 @@
 
 enum { DISK_MIB = 1, WORKERS = 2, GUARDED = 65536, GUARD = 0xa5, BURST = 8, LIFE = 90, STEPS = 40, PATIENT_STEPS = 3 };
 enum { HOSTILE_DEPTH = 64, HONEST_OCTETS = 8192, HARMLESS = 13, LARGE = 100000, LARGE_LIVES = 1000, WAITS = 20000, RARELY = 40 };
+/* What a queue sends in a turn: the most, and what was gathered before. Others send some capsules. */
+enum { MOST_SENT_IN_TURN = MOST_SENT + (3 << 16), MOST_ACCEPTED = 64, AT_ONCE = 32 };
 
 /* How a life ends. */
-enum end { CLOSED_BY_HOST, RESET, UNANSWERED_READ, WRONG_KEY, NO_MEMORY, STORE_FAILS, ENDS };
+enum end { CLOSED_BY_HOST, RESET, UNANSWERED_READ, WRONG_KEY, NO_MEMORY, STORE_FAILS, SYNC_FAILS, ENDS };
 
 static struct target target;
 static struct model model;
@@ -41,14 +43,22 @@ static void die(const char *why) {
     exit(1);
 }
 
-/* ---- memory and a store that fail: one call in so many does, none if it is 0 */
+/* ---- calls that fail: one in so many does, none if it is 0; and what the target's calls add up to */
 
-static _Atomic uint32_t memory_fails, store_fails, calls;
+static _Atomic uint32_t memory_fails, store_fails, sync_fails, calls, syncs;
+static size_t longest; /* so many octets of memory, and more, are refused; 0: they are not */
+static int sync_us; /* how long a sync takes */
 static int in_turn; /* only the target's own calls fail */
+static size_t sent_in_turn; /* octets, in this turn of the loop; only one queue sends many at a time */
+static int accepted_in_turn;
 
 static int is_unlucky(uint32_t one_in_so_many) {
     uint64_t number = one_in_so_many ? calls++ * 6364136223846793005u + 1442695040888963407u : 0;
     return one_in_so_many && (number >> 33) % one_in_so_many == 0;
+}
+
+static int is_refused(size_t n) {
+    return in_turn && (is_unlucky(memory_fails) || (longest && n >= longest));
 }
 
 void *__real_malloc(size_t n);
@@ -56,17 +66,21 @@ void *__real_calloc(size_t count, size_t n);
 void *__real_realloc(void *block, size_t n);
 ssize_t __real_pread(int fd, void *octets, size_t n, off_t at);
 ssize_t __real_pwrite(int fd, const void *octets, size_t n, off_t at);
+ssize_t __real_send(int fd, const void *octets, size_t n, int flags);
+int __real_accept4(int fd, struct sockaddr *address, socklen_t *n, int flags);
+int __real_fdatasync(int fd);
+int __real_fallocate(int fd, int mode, off_t at, off_t n);
 
 void *__wrap_malloc(size_t n) {
-    return in_turn && is_unlucky(memory_fails) ? 0 : __real_malloc(n);
+    return is_refused(n) ? 0 : __real_malloc(n);
 }
 
 void *__wrap_calloc(size_t count, size_t n) {
-    return in_turn && is_unlucky(memory_fails) ? 0 : __real_calloc(count, n);
+    return is_refused(count * n) ? 0 : __real_calloc(count, n);
 }
 
 void *__wrap_realloc(void *block, size_t n) {
-    return in_turn && is_unlucky(memory_fails) ? 0 : __real_realloc(block, n);
+    return is_refused(n) ? 0 : __real_realloc(block, n);
 }
 
 ssize_t __wrap_pread(int fd, void *octets, size_t n, off_t at) {
@@ -83,10 +97,41 @@ ssize_t __wrap_pwrite(int fd, const void *octets, size_t n, off_t at) {
     return -1;
 }
 
+int __wrap_fdatasync(int fd) {
+    syncs++;
+    if (sync_us) usleep((unsigned)sync_us);
+    if (!is_unlucky(sync_fails)) return __real_fdatasync(fd);
+    errno = EIO;
+    return -1;
+}
+
+/* A file system that cannot clear a range. */
+int __wrap_fallocate(int fd, int mode, off_t at, off_t n) {
+    if (calls++ % 2) return __real_fallocate(fd, mode, at, n);
+    errno = calls % 3 ? EINVAL : EOPNOTSUPP;
+    return -1;
+}
+
+ssize_t __wrap_send(int fd, const void *octets, size_t n, int flags) {
+    ssize_t went = __real_send(fd, octets, n, flags);
+    if (in_turn && went > 0) sent_in_turn += (size_t)went;
+    return went;
+}
+
+int __wrap_accept4(int fd, struct sockaddr *address, socklen_t *n, int flags) {
+    int accepted = __real_accept4(fd, address, n, flags);
+    accepted_in_turn += in_turn && accepted >= 0;
+    return accepted;
+}
+
 static void turn(void) {
+    sent_in_turn = 0;
+    accepted_in_turn = 0;
     in_turn = 1;
     if (!target_turn(&target, patience)) die("the target cannot go on");
     in_turn = 0;
+    if (sent_in_turn > MOST_SENT_IN_TURN) die("a queue sends on and on");
+    if (accepted_in_turn > MOST_ACCEPTED) die("connections are accepted on and on");
 }
 
 static struct host new_host(void) {
@@ -95,14 +140,15 @@ static struct host new_host(void) {
 
 /* ---- the disk and its model */
 
-/* What a slot asks for: a change, by its number; a Read; or what must not succeed. */
+/* What a slot asks for: a change, by its number; a Read; a Flush; or what must not succeed. */
 struct asks {
-    enum { NOTHING, CHANGES, READS, FAILS } kind;
+    enum { NOTHING, CHANGES, READS, SYNCS, FAILS } kind;
     size_t change;
     uint64_t begun;
 };
 
 static struct asks asks[2][HOSTILE_DEPTH]; /* of the admin queue and the I/O queue */
+static uint64_t failed; /* when it was known that the store had failed; 0: it has not */
 static int shared[2][HOSTILE_DEPTH]; /* the slot's region was named by another slot */
 static uint8_t regions[2][HOSTILE_DEPTH][GUARDED]; /* as they were when their commands were sent */
 
@@ -180,13 +226,14 @@ static void note(const struct host_queue *queue, uint16_t number) {
     const struct slot *slot = &queue->slots[number];
     const uint8_t *sqe = slot->capsule;
     struct asks *it = &asks[queue->id][number];
-    *it = (struct asks){NOTHING, 0, model.clock};
+    *it = (struct asks){NOTHING, 0, ++model.clock};
     if (queue->id == 0 || slot->n < SQE_OCTETS) return;
     struct change change = {.from = field(sqe + SQE_CDW10, 8), .count = (field(sqe + SQE_CDW12, 4) & RW_NLB) + 1};
     change.any = sqe[SQE_OPCODE] == IO_WRITE && is_foreign(queue, slot);
     const uint8_t *data = sqe[SQE_OPCODE] == IO_WRITE ? described(queue, slot, change.count * LBA_OCTETS) : 0;
     if (sqe[SQE_OPCODE] == IO_DATASET_MANAGEMENT) note_ranges(queue, slot);
     if (sqe[SQE_OPCODE] == IO_READ) it->kind = READS;
+    if (sqe[SQE_OPCODE] == IO_FLUSH) it->kind = SYNCS;
     if (sqe[SQE_OPCODE] != IO_WRITE && sqe[SQE_OPCODE] != IO_WRITE_ZEROES) return;
     it->kind = FAILS;
     if (!has_blocks(change.from, change.count) || (sqe[SQE_OPCODE] == IO_WRITE && !data)) return;
@@ -214,6 +261,9 @@ static void note_answer(const struct host_queue *queue, uint16_t number) {
     const struct slot *slot = &queue->slots[number];
     if (slot->in_hand || !slot->answered) return;
     if (it->kind == FAILS && slot->status == 0) die("a write succeeds that has no data or no blocks");
+    int counts_on_it = it->kind == CHANGES || it->kind == SYNCS;
+    if (counts_on_it && slot->status == 0 && failed && it->begun > failed) die("a store that has failed takes a write, or a Flush");
+    if (it->kind == SYNCS && slot->status == STATUS_WRITE_FAULT && !failed) failed = ++model.clock;
     if (it->kind == READS && slot->status == 0) check_read(queue, slot, it->begun);
     if (it->kind == CHANGES) model_end(&model, it->change, slot->status == 0 ? SUCCEEDED : is_of_store(slot->status) ? FAILED : REFUSED);
     it->kind = NOTHING;
@@ -439,14 +489,19 @@ static void spoil_connect(void) {
     host_end(&host);
 }
 
-/* A start-up frame that is spoiled, and octets behind it. */
-static void spoil_start(void) {
-    static const uint8_t request[] = "MPA ID Req Frame\x10\x02\x00\x24\x00\x80\x00\x00\x00\x00\x00\x00\x20\x00\x1f\x00";
-    uint8_t octets[256] = {0};
+static int plain_connection(void) {
     struct sockaddr_in address = {.sin_family = AF_INET, .sin_port = htons((unsigned short)target.port)};
     address.sin_addr.s_addr = htonl(0x7f000001);
     int fd = socket(AF_INET, SOCK_STREAM, 0);
     if (fd < 0 || connect(fd, (struct sockaddr *)&address, sizeof address) != 0) die("no connection");
+    return fd;
+}
+
+/* A start-up frame that is spoiled, and octets behind it. */
+static void spoil_start(void) {
+    static const uint8_t request[] = "MPA ID Req Frame\x10\x02\x00\x24\x00\x80\x00\x00\x00\x00\x00\x00\x20\x00\x1f\x00";
+    uint8_t octets[256] = {0};
+    int fd = plain_connection();
     memcpy(octets, request, sizeof request);
     for (int i = (int)random_number(4); i > 0; i--) octets[random_number(60)] = (uint8_t)random_number(256);
     for (size_t i = 56; i < sizeof octets; i++) octets[i] = (uint8_t)random_number(256);
@@ -523,7 +578,11 @@ static void reset(struct host_queue *queue) {
 static void fail_now_and_then(struct host *host, enum end how) {
     if (how == NO_MEMORY) memory_fails = RARELY;
     if (how == STORE_FAILS) store_fails = 3;
-    for (int i = 0; i < 4 && !host->queues[1]->ended; i++) burst(host->queues[1]);
+    if (how == SYNC_FAILS) sync_fails = 1;
+    for (int i = 0; i < 4 && !host->queues[1]->ended; i++) {
+        burst(host->queues[1]);
+        sync_fails = 0; /* the system tells of an error once */
+    }
 }
 
 /* The life of a hostile host. */
@@ -548,7 +607,7 @@ static void live(void) {
     ended += host.queues[0]->ended || queue->ended || how == RESET;
     host_end(&host);
     wait_for_queues(queues);
-    memory_fails = store_fails = 0;
+    memory_fails = store_fails = sync_fails = 0;
     look();
 }
 
@@ -603,6 +662,65 @@ static void check_honest(struct host *honest) {
     look();
 }
 
+/* ---- limits, with the honest host */
+
+/* Reads as many octets as sockets take, and more: no turn sends more than it may. Many connect: no turn takes more than it may. */
+static void check_turns(struct host *honest) {
+    struct host_queue *queue = honest->queues[1];
+    int fds[2 * MOST_ACCEPTED];
+    for (uint16_t slot = 0; slot < AT_ONCE; slot++) {
+        host_blocks(host_command(queue, slot, IO_READ, NSID), 0, (uint32_t)model.blocks / 2);
+        host_map(queue, slot, model.blocks / 2 * LBA_OCTETS, SGL_KEYED_INVALIDATE);
+        host_submit(queue, slot);
+    }
+    for (uint16_t slot = 0; slot < AT_ONCE; slot++)
+        if (host_await(queue, slot) != 0) die("the honest host cannot read much");
+    for (int i = 0; i < 2 * MOST_ACCEPTED; i++) fds[i] = plain_connection();
+    for (int i = 0; i < 8; i++) turn();
+    for (int i = 0; i < 2 * MOST_ACCEPTED; i++) close(fds[i]);
+}
+
+/* A Read that finds no memory, with nothing else under way, waits for it and is answered once there is some. */
+static void check_patience(struct host *honest) {
+    enum { OCTETS = 16384, TURNS = 50 };
+    struct host_queue *queue = honest->queues[1];
+    host_blocks(host_command(queue, 0, IO_READ, NSID), 1, OCTETS / LBA_OCTETS);
+    host_map(queue, 0, OCTETS, SGL_KEYED);
+    host_submit(queue, 0);
+    longest = OCTETS;
+    for (int i = 0; i < TURNS; i++)
+        if (!host_step(queue, 0)) die("a host for which there is no memory is let go");
+    if (queue->slots[0].answered) die("a Read is answered without memory");
+    longest = 0;
+    patience = 1;
+    if (host_await(queue, 0) != 0) die("a Read that has waited for memory is not answered");
+    patience = 0;
+}
+
+/* Flushes that come while one is under way are all served by the next. */
+static void check_syncs(struct host *honest) {
+    struct host_queue *queue = honest->queues[1];
+    uint32_t before = syncs;
+    sync_us = 20000;
+    for (uint16_t slot = 0; slot < AT_ONCE; slot++) {
+        host_command(queue, slot, IO_FLUSH, NSID);
+        host_submit(queue, slot);
+    }
+    patience = 1;
+    for (uint16_t slot = 0; slot < AT_ONCE; slot++)
+        if (host_await(queue, slot) != 0) die("the honest host cannot flush");
+    patience = 0;
+    sync_us = 0;
+    if (target.store.ram ? syncs != before : syncs == before || syncs > before + AT_ONCE / 4) die("each Flush has a sync of its own");
+}
+
+static void check_limits(struct host *honest) {
+    check_turns(honest);
+    check_patience(honest);
+    check_syncs(honest);
+    wait_for_queues(2);
+}
+
 /* ---- runs */
 
 static void make_file(const char *path) {
@@ -614,26 +732,46 @@ static void make_file(const char *path) {
     close(fd);
 }
 
-/* Sends so many capsules in at least so many lives, to a target over a new file, or over memory if the path is null. */
+static void start(const struct options *options) {
+    if (!target_open(&target, options)) exit(1);
+    failed = 0;
+}
+
+static void stop(void) {
+    int is_durable = target_close(&target);
+    if (target.queues) die("connections are left");
+    if (is_durable != !target.store.failed || (failed && is_durable)) die("a store that has failed says that it has not");
+}
+
+/* Sends so many capsules in at least so many lives, to a target over a new file, or over memory if the path is null. A target whose
+ * store has failed is started anew. */
 static void run(unsigned long capsules, unsigned long least_lives, const char *path) {
     struct options options = {.address = "127.0.0.1", .nqn = "nqn.2026-11.example:fuzzed", .serial = "1", .ram_mib = DISK_MIB,
         .workers = WORKERS, .start_ms = 10000, .stall_ms = 30000, .file = path};
-    if (path) make_file(path);
-    if (!target_open(&target, &options)) exit(1);
-    model_open(&model, target.store.blocks);
-    struct host honest = new_host();
-    if (!host_begin(&honest, 1, HOST_DEPTH)) die("the honest host is not served");
     unsigned long sent_before = sent, lives_before = lives;
+    if (path) make_file(path);
+    start(&options);
+    model_open(&model, target.store.blocks);
     while (sent - sent_before < capsules || lives - lives_before < least_lives) {
-        live();
-        spoil_connect();
-        spoil_start();
-        wait_for_queues(2);
-        check_honest(&honest);
+        struct host honest = new_host();
+        if (!host_begin(&honest, 1, HOST_DEPTH)) die("the honest host is not served");
+        if (lives == lives_before) check_limits(&honest);
+        while (!target.store.failed && (sent - sent_before < capsules || lives - lives_before < least_lives)) {
+            live();
+            spoil_connect();
+            spoil_start();
+            wait_for_queues(2);
+            if (!target.store.failed) check_honest(&honest);
+        }
+        host_end(&honest);
+        wait_for_queues(0);
+        look();
+        if (!target.store.failed) continue;
+        stop();
+        start(&options);
+        look();
     }
-    host_end(&honest);
-    target_close(&target);
-    if (target.queues) die("connections are left");
+    stop();
     model_close(&model);
 }
 

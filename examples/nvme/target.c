@@ -13,6 +13,7 @@ static const char help[] =
     "  --port N         the port; 0: any that is free, which the first line tells (4420)\n"
     "  --nqn NAME       the subsystem's name (nqn.2026-11.example:iwarp)\n"
     "  --serial TEXT    its serial number (1)\n"
+    "  --allow NQN      a host that may connect, by the name that it gives, which is not proved; up to 256 times (each host may)\n"
     "  --tell A         the address that discovery tells (the one that the host has reached)\n"
     "  --mulpdu N       octets of an FPDU's payload, 128 to 64512 (as TCP's segments have)\n"
     "  --workers N      threads that read and write the file (4)\n"
@@ -57,6 +58,12 @@ static int read_text(const char *text, const char **to) {
     return text && *text;
 }
 
+static int allow(struct options *options, const char *name) {
+    if (options->allowed_count == MOST_ALLOWED || !name || !*name || strlen(name) >= NQN_OCTETS) return 0;
+    options->allowed[options->allowed_count++] = name;
+    return 1;
+}
+
 /* Takes an option and its value. Returns whether both are right. */
 static int take(struct options *options, const char *word, const char *value) {
     if (strcmp(word, "--file") == 0) return read_text(value, &options->file);
@@ -65,6 +72,7 @@ static int take(struct options *options, const char *word, const char *value) {
     if (strcmp(word, "--port") == 0) return read_unsigned(value, 65535, &options->port);
     if (strcmp(word, "--nqn") == 0) return read_text(value, &options->nqn) && strlen(value) < NQN_OCTETS;
     if (strcmp(word, "--serial") == 0) return read_text(value, &options->serial);
+    if (strcmp(word, "--allow") == 0) return allow(options, value);
     if (strcmp(word, "--tell") == 0) return read_text(value, &options->told_address);
     if (strcmp(word, "--mulpdu") == 0) return read_unsigned(value, MOST_MULPDU, &options->mulpdu) && options->mulpdu >= LEAST_MULPDU;
     if (strcmp(word, "--workers") == 0) return read_unsigned(value, MOST_WORKERS, &options->workers) && options->workers > 0;

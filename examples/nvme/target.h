@@ -27,6 +27,7 @@ enum {
     MOST_ASYNC_EVENTS = 4,
     MOST_SENT = MIB, /* octets, of a queue in a turn of the loop, and what is gathered then */
     MOST_WORKERS = 64,
+    MOST_ALLOWED = 256,
     KEEP_ALIVE_UNIT = 1000 /* ms */
 };
 
@@ -204,6 +205,8 @@ struct options {
     unsigned port, options, mulpdu, workers, verbose;
     int read_only;
     uint64_t start_ms, stall_ms;
+    const char *allowed[MOST_ALLOWED]; /* the names of hosts; if there are none, each may connect */
+    unsigned allowed_count;
 };
 
 struct target {
