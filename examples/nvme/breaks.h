@@ -20,8 +20,8 @@ int break_off(struct host_queue *queue, struct asked *asked);
 /* Answers the Read with its first n octets, and no more. */
 void break_answer(struct host_queue *queue, const struct asked *asked, const uint8_t *octets, size_t n);
 
-/* Sends a frame by which the target's stream ends: a version of DDP or an opcode that there is not, a Write to a region or a Read of
- * one that there is not, a Terminate, or, if the streams have CRCs, a wrong CRC. */
+/* Sends a frame by which the target's stream ends: a version of DDP or an opcode that there is not, a Write to a region or a Read
+ * of one that there is not, a Terminate, or, if the streams have CRCs, a wrong CRC. */
 void break_by(struct host_queue *queue, enum breaking how);
 
 /* Waits until the target has ended the connection. Returns whether it has. */

@@ -604,7 +604,7 @@ static void break_awaited(struct host *host, const uint8_t *data, size_t part, e
     host_end(host);
 }
 
-/* A Write of which the host sends nothing, or a part, stores nothing of its own: the blocks are what they were, or have the part. */
+/* A Write of which the host sends nothing, or a part, stores nothing: the blocks are what they were. */
 static void write_unanswered(uint64_t from, size_t part, enum breaking how) {
     static uint8_t earlier[AWAITED], data[AWAITED];
     struct host host = new_host();
@@ -638,7 +638,7 @@ static void write_with_wrong_key(uint64_t from) {
     set_field(queue->slots[0].capsule + SQE_SGL + SGL_KEY, 4, queue->slots[0].stag ^ 0x5a5a5a5a);
     host_submit(queue, 0);
     host_command(queue, 1, IO_FLUSH, NSID);
-    CHECK(host_do(queue, 1) == 0);
+    host_submit(queue, 1);
     for (int i = 0; host_step(queue, 10); i++) CHECK(i < HOST_WAIT_MS / 10);
     host_end(&host);
 }
@@ -661,7 +661,7 @@ static void ends_badly(void) {
         range_unanswered(from + ((uint64_t)how * 3 + 2) * BETWEEN, (enum breaking)how);
     }
     write_with_wrong_key(from + 3 * BREAKINGS * BETWEEN);
-    let_go();
+    usleep(100000); /* what would be stored has time to be */
     int changed = 0;
     for (uint64_t i = 0; i < places; i++, from += BETWEEN) {
         fill(before, AWAITED, from);
@@ -709,7 +709,7 @@ static long used_ms(void) {
 
 /* Connections that were shut, and that their host leaves open, count among those that have not got as far as Connect. */
 static void drains(void) {
-    enum { SHUT = 600, MOST_SHUT = 256, OTHERS = 64 };
+    enum { SHUT = 400, MOST_SHUT = 256, OTHERS = 64 };
     static const char other[] = "GET / HTTP/1.1\r\nHost: a.disk\r\n\r\n";
     static int fds[SHUT];
     int most = 0;
@@ -730,8 +730,8 @@ static void few_files(void) {
     for (int i = 0; i < CALLERS; i++) fds[i] = plain_connection();
     usleep(100000);
     long before = used_ms();
-    usleep(1000000);
-    CHECK(used_ms() - before < 300);
+    usleep(500000);
+    CHECK(used_ms() - before < 200);
     for (int i = 0; i < CALLERS; i++) close(fds[i]);
     compares();
 }
@@ -816,8 +816,8 @@ static void is_read_only(void) {
 
 enum { VERSIONED = 4096, IN_HAND = 16, LONGEST_RUN = 40, KILL_AFTER = 300 };
 
-/* A block has the version that was answered with success last, or the one that was asked for last; 0: zeroes. At most one Write of a
- * block is under way. */
+/* A block has the version that was answered with success last, or the one that was asked for last; 0: zeroes. At most one Write
+ * of a block is under way. */
 static struct {
     uint32_t sure[VERSIONED], asked[VERSIONED], rounds;
 } disk_model;

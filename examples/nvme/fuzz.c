@@ -12,6 +12,7 @@
  * The disk is memory, or the file, which is made. `large` is 100,000 capsules and 1,000 lives over memory, and as many over the
  * file, if one is named, else over memory once more. */
 #include "breaks.h"
+#include "luck.h"
 #include "model.h"
 #include "target.h"
 
@@ -28,6 +29,7 @@ static struct model model;
 static uint64_t seed;
 static unsigned long sent, answered, successes, lives, ended, looks, reads;
 static int patience; /* ms that a turn may wait */
+static uint64_t failed; /* by the model's clock: a sync had failed; 0: none has */
 
 static uint32_t random_number(uint32_t below) {
     seed = seed * 6364136223846793005u + 1442695040888963407u;
@@ -43,95 +45,17 @@ static void die(const char *why) {
     exit(1);
 }
 
-/* ---- calls that fail: one in so many does, none if it is 0; and what the target's calls add up to */
-
-static _Atomic uint32_t memory_fails, store_fails, sync_fails, calls, syncs;
-static size_t longest; /* so many octets of memory, and more, are refused; 0: they are not */
-static int sync_us; /* how long a sync takes */
-static int in_turn; /* only the target's own calls fail */
-static size_t sent_in_turn; /* octets, in this turn of the loop; only one queue sends many at a time */
-static int accepted_in_turn;
-
-static int is_unlucky(uint32_t one_in_so_many) {
-    uint64_t number = one_in_so_many ? calls++ * 6364136223846793005u + 1442695040888963407u : 0;
-    return one_in_so_many && (number >> 33) % one_in_so_many == 0;
-}
-
-static int is_refused(size_t n) {
-    return in_turn && (is_unlucky(memory_fails) || (longest && n >= longest));
-}
-
-void *__real_malloc(size_t n);
-void *__real_calloc(size_t count, size_t n);
-void *__real_realloc(void *block, size_t n);
-ssize_t __real_pread(int fd, void *octets, size_t n, off_t at);
-ssize_t __real_pwrite(int fd, const void *octets, size_t n, off_t at);
-ssize_t __real_send(int fd, const void *octets, size_t n, int flags);
-int __real_accept4(int fd, struct sockaddr *address, socklen_t *n, int flags);
-int __real_fdatasync(int fd);
-int __real_fallocate(int fd, int mode, off_t at, off_t n);
-
-void *__wrap_malloc(size_t n) {
-    return is_refused(n) ? 0 : __real_malloc(n);
-}
-
-void *__wrap_calloc(size_t count, size_t n) {
-    return is_refused(count * n) ? 0 : __real_calloc(count, n);
-}
-
-void *__wrap_realloc(void *block, size_t n) {
-    return is_refused(n) ? 0 : __real_realloc(block, n);
-}
-
-ssize_t __wrap_pread(int fd, void *octets, size_t n, off_t at) {
-    if (!is_unlucky(store_fails)) return __real_pread(fd, octets, n, at);
-    errno = EIO;
-    return -1;
-}
-
-/* What fails may be a part: whole blocks. */
-ssize_t __wrap_pwrite(int fd, const void *octets, size_t n, off_t at) {
-    if (!is_unlucky(store_fails)) return __real_pwrite(fd, octets, n, at);
-    if (n > LBA_OCTETS && calls % 2 == 0) return __real_pwrite(fd, octets, LBA_OCTETS, at);
-    errno = calls % 3 == 0 ? ENOSPC : EIO;
-    return -1;
-}
-
-int __wrap_fdatasync(int fd) {
-    syncs++;
-    if (sync_us) usleep((unsigned)sync_us);
-    if (!is_unlucky(sync_fails)) return __real_fdatasync(fd);
-    errno = EIO;
-    return -1;
-}
-
-/* A file system that cannot clear a range. */
-int __wrap_fallocate(int fd, int mode, off_t at, off_t n) {
-    if (calls++ % 2) return __real_fallocate(fd, mode, at, n);
-    errno = calls % 3 ? EINVAL : EOPNOTSUPP;
-    return -1;
-}
-
-ssize_t __wrap_send(int fd, const void *octets, size_t n, int flags) {
-    ssize_t went = __real_send(fd, octets, n, flags);
-    if (in_turn && went > 0) sent_in_turn += (size_t)went;
-    return went;
-}
-
-int __wrap_accept4(int fd, struct sockaddr *address, socklen_t *n, int flags) {
-    int accepted = __real_accept4(fd, address, n, flags);
-    accepted_in_turn += in_turn && accepted >= 0;
-    return accepted;
-}
+/* ---- the target */
 
 static void turn(void) {
-    sent_in_turn = 0;
-    accepted_in_turn = 0;
-    in_turn = 1;
+    luck.sent = 0;
+    luck.accepted = 0;
+    luck.in_turn = 1;
     if (!target_turn(&target, patience)) die("the target cannot go on");
-    in_turn = 0;
-    if (sent_in_turn > MOST_SENT_IN_TURN) die("a queue sends on and on");
-    if (accepted_in_turn > MOST_ACCEPTED) die("connections are accepted on and on");
+    luck.in_turn = 0;
+    if (luck.sync_failed && !failed) failed = ++model.clock;
+    if (luck.sent > MOST_SENT_IN_TURN) die("a queue sends on and on");
+    if (luck.accepted > MOST_ACCEPTED) die("connections are accepted on and on");
 }
 
 static struct host new_host(void) {
@@ -148,7 +72,6 @@ struct asks {
 };
 
 static struct asks asks[2][HOSTILE_DEPTH]; /* of the admin queue and the I/O queue */
-static uint64_t failed; /* when it was known that the store had failed; 0: it has not */
 static int shared[2][HOSTILE_DEPTH]; /* the slot's region was named by another slot */
 static uint8_t regions[2][HOSTILE_DEPTH][GUARDED]; /* as they were when their commands were sent */
 
@@ -156,7 +79,7 @@ static void look(void) {
     static uint8_t disk[DISK_MIB << 20];
     const uint8_t *octets = target.store.ram;
     uint64_t n = target.store.blocks * LBA_OCTETS;
-    if (!octets && __real_pread(target.store.fd, disk, n, 0) != (ssize_t)n) die("the file cannot be read");
+    if (!octets && pread(target.store.fd, disk, n, 0) != (ssize_t)n) die("the file cannot be read");
     uint64_t block = model_look(&model, octets ? octets : disk);
     if (block < model.blocks) {
         const uint8_t *at = (octets ? octets : disk) + block * LBA_OCTETS;
@@ -193,8 +116,10 @@ static const uint8_t *described(const struct host_queue *queue, const struct slo
         return field(sgl + SGL_LENGTH, 4) == n && at <= inside && n <= inside - at ? sqe + SQE_OCTETS + at : 0;
     }
     const struct slot *region = named_region(queue, sqe);
-    if ((sgl[SGL_TYPE] != SGL_KEYED && sgl[SGL_TYPE] != SGL_KEYED_INVALIDATE) || field(sgl + SGL_LENGTH, 3) != n || !region) return 0;
-    return at >= region->base && at - region->base <= GUARDED && n <= GUARDED - (at - region->base) ? region->octets + (at - region->base) : 0;
+    int is_keyed = sgl[SGL_TYPE] == SGL_KEYED || sgl[SGL_TYPE] == SGL_KEYED_INVALIDATE;
+    if (!is_keyed || !region || field(sgl + SGL_LENGTH, 3) != n || at < region->base) return 0;
+    at -= region->base;
+    return at <= GUARDED && n <= GUARDED - at ? region->octets + at : 0;
 }
 
 /* Whether the data that a capsule describes lies in a region of another slot, so that nobody knows what it is. */
@@ -263,9 +188,9 @@ static void note_answer(const struct host_queue *queue, uint16_t number) {
     if (it->kind == FAILS && slot->status == 0) die("a write succeeds that has no data or no blocks");
     int counts_on_it = it->kind == CHANGES || it->kind == SYNCS;
     if (counts_on_it && slot->status == 0 && failed && it->begun > failed) die("a store that has failed takes a write, or a Flush");
-    if (it->kind == SYNCS && slot->status == STATUS_WRITE_FAULT && !failed) failed = ++model.clock;
     if (it->kind == READS && slot->status == 0) check_read(queue, slot, it->begun);
-    if (it->kind == CHANGES) model_end(&model, it->change, slot->status == 0 ? SUCCEEDED : is_of_store(slot->status) ? FAILED : REFUSED);
+    enum outcome outcome = slot->status == 0 ? SUCCEEDED : is_of_store(slot->status) ? FAILED : REFUSED;
+    if (it->kind == CHANGES) model_end(&model, it->change, outcome);
     it->kind = NOTHING;
 }
 
@@ -532,8 +457,8 @@ static void leave_unanswered(struct host_queue *queue) {
             host_submit(queue, slots[i]);
             sent++;
         } else {
-            host_command(queue, slots[i], IO_FLUSH, NSID);
-            if (one_in(2)) host_blocks(host_command(queue, slots[i], IO_WRITE_ZEROES, NSID), random_number(64), 1 + random_number(8));
+            uint8_t *sqe = host_command(queue, slots[i], one_in(2) ? IO_FLUSH : IO_WRITE_ZEROES, NSID);
+            if (sqe[SQE_OPCODE] == IO_WRITE_ZEROES) host_blocks(sqe, random_number(64), 1 + random_number(8));
             submit(queue, slots[i]);
         }
     }
@@ -574,15 +499,27 @@ static void reset(struct host_queue *queue) {
     queue->fd = -1;
 }
 
-/* Goes on while memory, or the store, fails now and then. */
-static void fail_now_and_then(struct host *host, enum end how) {
-    if (how == NO_MEMORY) memory_fails = RARELY;
-    if (how == STORE_FAILS) store_fails = 3;
-    if (how == SYNC_FAILS) sync_fails = 1;
-    for (int i = 0; i < 4 && !host->queues[1]->ended; i++) {
-        burst(host->queues[1]);
-        sync_fails = 0; /* the system tells of an error once */
+/* A Flush fails. */
+static void fail_sync(struct host_queue *queue) {
+    uint16_t slot;
+    if (free_slots(queue, &slot, 1) == 0) return;
+    host_command(queue, slot, IO_FLUSH, NSID);
+    submit(queue, slot);
+    luck.sync_fails = 1;
+    patience = 1;
+    for (int i = 0; i < WAITS && queue->slots[slot].in_hand && host_step(queue, 0); i++) {
     }
+    patience = 0;
+    luck.sync_fails = 0; /* the system tells of an error once */
+    if (luck.sync_failed && queue->slots[slot].answered && queue->slots[slot].status == 0) die("a Flush that has failed succeeds");
+}
+
+/* Goes on while memory, or the store, fails now and then, or after a sync has failed. */
+static void fail_now_and_then(struct host *host, enum end how) {
+    if (how == SYNC_FAILS) fail_sync(host->queues[1]);
+    if (how == NO_MEMORY) luck.memory_fails = RARELY;
+    if (how == STORE_FAILS) luck.store_fails = 3;
+    for (int i = 0; i < 4 && !host->queues[1]->ended; i++) burst(host->queues[1]);
 }
 
 /* The life of a hostile host. */
@@ -607,7 +544,7 @@ static void live(void) {
     ended += host.queues[0]->ended || queue->ended || how == RESET;
     host_end(&host);
     wait_for_queues(queues);
-    memory_fails = store_fails = sync_fails = 0;
+    luck.memory_fails = luck.store_fails = 0;
     look();
 }
 
@@ -687,11 +624,11 @@ static void check_patience(struct host *honest) {
     host_blocks(host_command(queue, 0, IO_READ, NSID), 1, OCTETS / LBA_OCTETS);
     host_map(queue, 0, OCTETS, SGL_KEYED);
     host_submit(queue, 0);
-    longest = OCTETS;
+    luck.longest = OCTETS;
     for (int i = 0; i < TURNS; i++)
         if (!host_step(queue, 0)) die("a host for which there is no memory is let go");
     if (queue->slots[0].answered) die("a Read is answered without memory");
-    longest = 0;
+    luck.longest = 0;
     patience = 1;
     if (host_await(queue, 0) != 0) die("a Read that has waited for memory is not answered");
     patience = 0;
@@ -700,8 +637,8 @@ static void check_patience(struct host *honest) {
 /* Flushes that come while one is under way are all served by the next. */
 static void check_syncs(struct host *honest) {
     struct host_queue *queue = honest->queues[1];
-    uint32_t before = syncs;
-    sync_us = 20000;
+    uint32_t before = luck.syncs;
+    luck.sync_us = 20000;
     for (uint16_t slot = 0; slot < AT_ONCE; slot++) {
         host_command(queue, slot, IO_FLUSH, NSID);
         host_submit(queue, slot);
@@ -710,8 +647,9 @@ static void check_syncs(struct host *honest) {
     for (uint16_t slot = 0; slot < AT_ONCE; slot++)
         if (host_await(queue, slot) != 0) die("the honest host cannot flush");
     patience = 0;
-    sync_us = 0;
-    if (target.store.ram ? syncs != before : syncs == before || syncs > before + AT_ONCE / 4) die("each Flush has a sync of its own");
+    luck.sync_us = 0;
+    uint32_t count = luck.syncs - before;
+    if (target.store.ram ? count > 0 : count == 0 || count > AT_ONCE / 4) die("each Flush has a sync of its own");
 }
 
 static void check_limits(struct host *honest) {
@@ -734,13 +672,13 @@ static void make_file(const char *path) {
 
 static void start(const struct options *options) {
     if (!target_open(&target, options)) exit(1);
-    failed = 0;
+    failed = luck.sync_failed = 0;
 }
 
 static void stop(void) {
     int is_durable = target_close(&target);
     if (target.queues) die("connections are left");
-    if (is_durable != !target.store.failed || (failed && is_durable)) die("a store that has failed says that it has not");
+    if (is_durable != !failed) die("a store that has failed says that it has not");
 }
 
 /* Sends so many capsules in at least so many lives, to a target over a new file, or over memory if the path is null. A target whose
@@ -756,17 +694,17 @@ static void run(unsigned long capsules, unsigned long least_lives, const char *p
         struct host honest = new_host();
         if (!host_begin(&honest, 1, HOST_DEPTH)) die("the honest host is not served");
         if (lives == lives_before) check_limits(&honest);
-        while (!target.store.failed && (sent - sent_before < capsules || lives - lives_before < least_lives)) {
+        while (!failed && (sent - sent_before < capsules || lives - lives_before < least_lives)) {
             live();
             spoil_connect();
             spoil_start();
             wait_for_queues(2);
-            if (!target.store.failed) check_honest(&honest);
+            if (!failed) check_honest(&honest);
         }
         host_end(&honest);
         wait_for_queues(0);
         look();
-        if (!target.store.failed) continue;
+        if (!failed) continue;
         stop();
         start(&options);
         look();
@@ -786,7 +724,7 @@ int main(int n, char **words) {
     } else {
         run(n > 1 ? (unsigned long)strtoull(words[1], 0, 10) : 10000, 0, path);
     }
-    printf("%lu capsules of %lu hosts, %lu of them ended; %lu answered, %lu with success; %lu Reads and %lu times the disk compared\n",
-           sent, lives, ended, answered, successes, reads, looks);
+    printf("%lu capsules of %lu hosts, %lu of them ended; %lu answered, %lu with success; ", sent, lives, ended, answered, successes);
+    printf("compared: %lu Reads, %lu times the disk\n", reads, looks);
     return 0;
 }

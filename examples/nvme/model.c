@@ -101,8 +101,8 @@ uint64_t model_look(struct model *model, const uint8_t *disk) {
     uint64_t block = 0;
     for (; block < model->blocks; block++) {
         const uint8_t *now = disk + block * BLOCK;
-        int is_well = marks[block] ? may_have(model, block, now, UINT64_MAX) : memcmp(now, model->octets + block * BLOCK, BLOCK) == 0;
-        if (!is_well) break;
+        if (memcmp(now, model->octets + block * BLOCK, BLOCK) != 0 && !marks[block]) break;
+        if (marks[block] && !may_have(model, block, now, UINT64_MAX)) break;
     }
     free(marks);
     if (block < model->blocks) return block;
