@@ -4,7 +4,7 @@
 enum { MOST_RAM_MIB = 1 << 20, MOST_SECONDS = 86400, OTHER_FILES = 64, FILES = MOST_QUEUES + OTHER_FILES };
 
 static const char help[] =
-    "A disk for NVMe over RDMA hosts: target [OPTION VALUE].. [FLAG]..\n"
+    " [OPTION VALUE].. [FLAG]..\n"
     "\n"
     "  --file PATH      the disk: a file or block device, of which whole blocks of 512 octets are used\n"
     "  --read-only      the file is not written, and hosts are told so\n"
@@ -112,7 +112,7 @@ int main(int n, char **words) {
     if (n > 0) name_program(words[0]);
     for (int i = 1; i < n; i++) {
         if (strcmp(words[i], "--help") == 0) {
-            fputs(help, stdout);
+            printf("A disk for NVMe over RDMA hosts: %s%s", program, help);
             return 0;
         }
         if (strcmp(words[i], "--crc") == 0)
