@@ -960,6 +960,18 @@ static void is_stopped(void) {
     host_end(&slow);
 }
 
+/* A target that is told to end does not wait for ever for a host that does not answer. */
+static void hangs(void) {
+    struct host host = new_host();
+    CHECK(host_begin(&host, 1, HOST_DEPTH));
+    map_blocks(host.queues[1], 0, IO_WRITE, VERSIONED, TRANSFER, SGL_KEYED);
+    host_submit(host.queues[1], 0);
+    CHECK(host_write_out(host.queues[1]));
+    usleep(100000);
+    CHECK(kill(target_process(), SIGTERM) == 0 && break_is_seen(host.queues[1]));
+    host_end(&host);
+}
+
 /* What is_stopped wrote is there. */
 static void was_stopped(void) {
     static uint8_t data[TRANSFER], in[TRANSFER];
@@ -990,6 +1002,7 @@ static const struct {
     {"is-killed", is_killed},     {"stands-by", stands_by},
     {"is-stopped", is_stopped},   {"was-stopped", was_stopped},
     {"read-only", is_read_only},  {"not-allowed", is_not_allowed},
+    {"hangs", hangs},
 };
 
 int main(int n, char **words) {
