@@ -716,6 +716,7 @@ static void drains(void) {
     for (int i = 0; i < SHUT; i++) {
         fds[i] = plain_connection();
         CHECK(send(fds[i], other, sizeof other - 1, MSG_NOSIGNAL) > 0);
+        if (i % 10 == 9) usleep(5000); /* the target takes them, so that none waits for the system to ask again */
         int now = i % 50 == 49 ? open_files() : 0;
         if (now > most) most = now;
     }
