@@ -27,8 +27,9 @@ enum end { CLOSED_BY_HOST, RESET, UNANSWERED_READ, WRONG_KEY, NO_MEMORY, STORE_F
 static struct target target;
 static struct model model;
 static uint64_t seed;
-static unsigned long sent, answered, successes, lives, ended, looks, reads;
+static unsigned long sent, answered, successes, lives, ended, looks, reads, ends[ENDS]; /* of those that came to their chosen end */
 static int patience; /* ms that a turn may wait */
+static int spoils; /* this life's capsules; else they are right, and the connection lasts until the life's end */
 static uint64_t failed; /* by the model's clock: a sync had failed; 0: none has */
 
 static uint32_t random_number(uint32_t below) {
@@ -303,7 +304,7 @@ static void make(struct host_queue *queue, uint16_t slot) {
         uint8_t *named = map_guarded(queue, slot, n);
         if (queue->id == 1) make_data(queue, sqe, named, n);
     }
-    if (!one_in(4)) spoil(it);
+    if (spoils && !one_in(4)) spoil(it);
 }
 
 /* Keeps what the slot's region has, which the target writes to only as the capsule says. What another slot's region has, that this
@@ -527,21 +528,23 @@ static void live(void) {
     struct host host = new_host();
     uint32_t queues = target.queues_made;
     if (!host_begin(&host, 1, HOSTILE_DEPTH)) die("a host is not served");
-    for (int i = 0; i < LIFE / BURST; i++) {
-        burst(host.queues[random_number(4) > 0]);
-        if (host.queues[0]->ended || host.queues[1]->ended) break;
-    }
-    enum end how = (enum end)random_number(ENDS);
     struct host_queue *queue = host.queues[1];
-    int runs = !host.queues[0]->ended && !queue->ended;
-    if (runs && how == RESET) reset(queue);
-    if (runs && how == UNANSWERED_READ) leave_unanswered(queue);
-    if (runs && how == WRONG_KEY) spoil_key(queue);
-    if (runs && how >= NO_MEMORY) fail_now_and_then(&host, how);
+    spoils = one_in(2);
+    for (uint32_t left = random_number(2 * LIFE / BURST); left > 0 && !host.queues[0]->ended && !queue->ended; left--)
+        burst(host.queues[random_number(4) > 0]);
+    enum end how = (enum end)random_number(ENDS);
+    if (!host.queues[0]->ended && !queue->ended) {
+        ends[how]++;
+        if (how == RESET) reset(queue);
+        if (how == UNANSWERED_READ) leave_unanswered(queue);
+        if (how == WRONG_KEY) spoil_key(queue);
+        if (how >= NO_MEMORY) fail_now_and_then(&host, how);
+        ended += how == CLOSED_BY_HOST;
+    }
     for (int id = 0; id < 2; id++)
         for (uint16_t slot = 0; slot < host.queues[id]->depth; slot++) end(host.queues[id], slot);
     lives++;
-    ended += host.queues[0]->ended || queue->ended || how == RESET;
+    ended += host.queues[0]->ended || queue->ended || queue->fd < 0;
     host_end(&host);
     wait_for_queues(queues);
     luck.memory_fails = luck.store_fails = 0;
@@ -726,5 +729,7 @@ int main(int n, char **words) {
     }
     printf("%lu capsules of %lu hosts, %lu of them ended; %lu answered, %lu with success; ", sent, lives, ended, answered, successes);
     printf("compared: %lu Reads, %lu times the disk\n", reads, looks);
+    printf("ends: %lu closed, %lu reset, %lu Reads unanswered, %lu wrong keys, ", ends[0], ends[RESET], ends[UNANSWERED_READ], ends[WRONG_KEY]);
+    printf("%lu without memory, %lu stores and %lu syncs that fail\n", ends[NO_MEMORY], ends[STORE_FAILS], ends[SYNC_FAILS]);
     return 0;
 }
