@@ -1,10 +1,12 @@
-//! What bench/c compares with: the calls that it makes through the C interface, made from Rattle.
+//! What bench/c compares with: what it does through the C interface, done from Rattle. Frames are appended by `fill`, as
+//! an application's are.
 #![tactic(auto)]
 
 use bytes::Bytes;
+use iw_connection::fill;
 use iw_endpoint::{
-    Config, Emission, Endpoint, Establishment, MAX_PLACE, Message, PrivateData, Request, Rights,
-    Role, Stag, Step,
+    Config, Endpoint, Establishment, MAX_PLACE, Message, PrivateData, Request, Rights, Role, Stag,
+    Step,
 };
 use std::alloc::Global;
 
@@ -91,27 +93,6 @@ pub extern "C" fn handle_bench_write(alloc: Global, frames: &[u8], writes: u64) 
     steps
 }
 
-// Appends the next frame. Returns whether one was due.
-fn emit(endpoint: &mut Endpoint, out: &mut Vec<u8>) -> bool {
-    match endpoint.sent(STREAM) {
-        Ok(sent) if sent <= MAX_PLACE => {}
-        _ => return false,
-    }
-    match endpoint.emit(STREAM, out) {
-        Ok(Emission::Frame { .. }) => true,
-        Ok(_) | Err(_) => false,
-    }
-}
-
-// Appends all frames that are due.
-fn emit_all(endpoint: &mut Endpoint, out: &mut Vec<u8>) {
-    for _ in 0..1_000_000u64 {
-        if !emit(endpoint, out) {
-            return;
-        }
-    }
-}
-
 // A Send, or a Write to the first region of the peer's first domain.
 fn message(is_send: bool, octets: Bytes) -> Message<Bytes> {
     if is_send {
@@ -135,7 +116,7 @@ fn carry(endpoint: &mut Endpoint, out: &mut Vec<u8>, is_send: bool, octets: Byte
         Err(_) => return 0,
     }
     out.clear();
-    emit_all(endpoint, out);
+    let _ = fill(endpoint, STREAM, out, usize::MAX);
     let _ = work(endpoint);
     out.len() as u64
 }
