@@ -186,8 +186,7 @@ void command_fetched(struct command *command) {
 }
 
 void command_give_up(struct command *command) {
-    endpoint_drop(&command->queue->endpoint, command->sink);
-    command->sink = 0;
+    if (endpoint_drop(&command->queue->endpoint, command->sink) == IWARP_OK) command->sink = 0;
     iwarp_buffer_free(&command->buffer);
     command->queue->held -= command->size;
     command->size = 0;

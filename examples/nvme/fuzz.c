@@ -622,16 +622,16 @@ static void check_turns(struct host *honest) {
 
 /* A Read that finds no memory, with nothing else under way, waits for it and is answered once there is some. */
 static void check_patience(struct host *honest) {
-    enum { OCTETS = 16384, TURNS = 50 };
+    enum { OCTETS = 25 * LBA_OCTETS, TURNS = 50 };
     struct host_queue *queue = honest->queues[1];
     host_blocks(host_command(queue, 0, IO_READ, NSID), 1, OCTETS / LBA_OCTETS);
     host_map(queue, 0, OCTETS, SGL_KEYED);
     host_submit(queue, 0);
-    luck.longest = OCTETS;
+    luck.refused = OCTETS;
     for (int i = 0; i < TURNS; i++)
         if (!host_step(queue, 0)) die("a host for which there is no memory is let go");
     if (queue->slots[0].answered) die("a Read is answered without memory");
-    luck.longest = 0;
+    luck.refused = 0;
     patience = 1;
     if (host_await(queue, 0) != 0) die("a Read that has waited for memory is not answered");
     patience = 0;

@@ -16,7 +16,9 @@ static int is_unlucky(uint32_t one_in) {
 }
 
 static int is_refused(size_t n) {
-    return luck.in_turn && (is_unlucky(luck.memory_fails) || (luck.longest && n >= luck.longest));
+    enum { MORE = 64 }; /* octets that an allocation may add */
+    if (!luck.in_turn) return 0;
+    return is_unlucky(luck.memory_fails) || (luck.refused && n >= luck.refused && n <= luck.refused + MORE);
 }
 
 void *__real_malloc(size_t n);
