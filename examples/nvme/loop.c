@@ -152,6 +152,7 @@ static void begin_end(struct target *target) {
     epoll_ctl(target->epoll, EPOLL_CTL_DEL, target->stop, 0);
 }
 
+/* A queue that has more to send takes no commands before that is sent, so that they come in lots: its event comes again. */
 static void take_event(struct target *target, const struct epoll_event *event) {
     struct queue *queue = event->data.ptr;
     if (event->data.ptr == &target->listener) {
@@ -160,7 +161,7 @@ static void take_event(struct target *target, const struct epoll_event *event) {
         take_jobs(target);
     } else if (event->data.ptr == &target->stop) {
         begin_end(target);
-    } else if (queue->state != CLOSED) {
+    } else if (queue->state != CLOSED && !queue->again) {
         if (event->events & ~(uint32_t)EPOLLOUT)
             queue_readable(queue);
         else
