@@ -2,6 +2,7 @@
 #include "target.h"
 
 enum { ZEROES = 65536 }; /* octets that are cleared at once */
+enum { MOST_LOOKED = 64 }; /* jobs that wait, of which it is asked whether another has to wait for them */
 
 /* What is wrong, as a command's status. */
 static uint16_t status_of(int error, uint16_t otherwise) {
@@ -155,14 +156,75 @@ static void hand_over(struct store *store, struct jobs *jobs, struct job *job) {
     pthread_mutex_unlock(&store->mutex);
 }
 
-/* The oldest job for a worker. Returns null once there is none, and the store ends. */
+/* ---- jobs that may not be done at a time */
+
+static int is_change(const struct job *job) {
+    return job->kind == JOB_WRITE || job->kind == JOB_ZERO || job->kind == JOB_DEALLOCATE;
+}
+
+/* Whether a job is about octets of these. */
+static int is_about(const struct job *job, uint64_t at, uint64_t n) {
+    if (job->kind != JOB_DEALLOCATE) return job->at < at + n && at < job->at + job->n;
+    for (const uint8_t *range = job->octets; range < job->octets + job->n; range += RANGE_OCTETS) {
+        uint64_t from = field(range + RANGE_SLBA, 8) << LBA_SHIFT, count = field(range + RANGE_NLB, 4) << LBA_SHIFT;
+        if (from < at + n && at < from + count) return 1;
+    }
+    return 0;
+}
+
+/* Whether one changes octets that the other is about: the system may show a block half changed, as a host is not to see it. */
+static int collide(const struct job *one, const struct job *other) {
+    if (!is_change(one) && !is_change(other)) return 0;
+    if (other->kind != JOB_DEALLOCATE) return is_about(one, other->at, other->n);
+    for (const uint8_t *range = other->octets; range < other->octets + other->n; range += RANGE_OCTETS)
+        if (is_about(one, field(range + RANGE_SLBA, 8) << LBA_SHIFT, field(range + RANGE_NLB, 4) << LBA_SHIFT)) return 1;
+    return 0;
+}
+
+/* Whether a job has to wait: for one that is being done, or for one that waits in front of it. If too many do, it waits as well. */
+static int has_to_wait(const struct store *store, const struct job *job) {
+    int looked = 0;
+    for (int i = 0; i < store->doing_count; i++)
+        if (collide(job, store->doing[i])) return 1;
+    for (const struct job *it = store->to_do.first; it && it != job; it = it->next)
+        if (++looked == MOST_LOOKED || collide(job, it)) return 1;
+    return 0;
+}
+
+static void begin_doing(struct store *store, struct job *job) {
+    store->doing[store->doing_count++] = job;
+}
+
+/* The job is done: what waited for it goes on. */
+static void end_doing(struct store *store, const struct job *job) {
+    int i = 0;
+    pthread_mutex_lock(&store->mutex);
+    while (store->doing[i] != job) i++;
+    store->doing[i] = store->doing[--store->doing_count];
+    if (store->to_do.first) pthread_cond_broadcast(&store->to_do.more);
+    pthread_mutex_unlock(&store->mutex);
+}
+
+/* Takes the oldest job out that need not wait, if there is one. */
+static struct job *oldest_that_may(struct store *store) {
+    struct jobs *jobs = &store->to_do;
+    struct job **link = &jobs->first;
+    int looked = 0;
+    while (*link && has_to_wait(store, *link) && ++looked < MOST_LOOKED) link = &(*link)->next;
+    struct job *job = *link;
+    if (!job || looked == MOST_LOOKED) return 0;
+    *link = job->next;
+    if (!*link) jobs->last = link;
+    begin_doing(store, job);
+    return job;
+}
+
+/* The oldest job for a worker that need not wait. Returns null once there are none, and the store ends. */
 static struct job *take_one(struct store *store) {
     struct jobs *jobs = &store->to_do;
+    struct job *job = 0;
     pthread_mutex_lock(&store->mutex);
-    while (!jobs->first && !jobs->ends) pthread_cond_wait(&jobs->more, &store->mutex);
-    struct job *job = jobs->first;
-    if (job) jobs->first = job->next;
-    if (!jobs->first) make_empty(jobs);
+    while (!(job = oldest_that_may(store)) && !(jobs->ends && !jobs->first)) pthread_cond_wait(&jobs->more, &store->mutex);
     pthread_mutex_unlock(&store->mutex);
     return job;
 }
@@ -197,6 +259,7 @@ static void *work(void *given) {
             do_in_memory(store, job);
         else if (!is_refused(store, job))
             do_in_file(store, job);
+        end_doing(store, job);
         if (!store->ram && job->status == STATUS_SUCCESS && is_to_be_durable(job)) {
             hand_over(store, &store->unsynced, job);
         } else {
@@ -225,12 +288,19 @@ static void *sync_jobs(void *given) {
     return 0;
 }
 
-/* Whether a file's octets are in the system's cache, and so read at once. */
-static int read_cached(const struct store *store, struct job *job) {
+/* Whether a file's octets are in the system's cache, and so read at once, and no change of them waits or is being done. */
+static int read_cached(struct store *store, struct job *job) {
     struct iovec part = {job->octets, job->n};
-    if (job->kind != JOB_READ || preadv2(store->fd, &part, 1, (off_t)job->at, RWF_NOWAIT) != (ssize_t)job->n) return 0;
-    job->status = STATUS_SUCCESS;
-    return 1;
+    if (job->kind != JOB_READ) return 0;
+    pthread_mutex_lock(&store->mutex);
+    int waits = has_to_wait(store, job);
+    if (!waits) begin_doing(store, job);
+    pthread_mutex_unlock(&store->mutex);
+    if (waits) return 0;
+    int is_read = preadv2(store->fd, &part, 1, (off_t)job->at, RWF_NOWAIT) == (ssize_t)job->n;
+    end_doing(store, job);
+    if (is_read) job->status = STATUS_SUCCESS;
+    return is_read;
 }
 
 /* Whether the job was done at once, as it takes no time that others would have to wait for. */

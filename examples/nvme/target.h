@@ -59,9 +59,11 @@ struct store {
     _Atomic int failed; /* what was written may be lost */
     int told; /* an eventfd: jobs are done */
     pthread_mutex_t memory; /* of `ram` */
-    pthread_mutex_t mutex; /* of the lists */
+    pthread_mutex_t mutex; /* of the lists, and of what is being done */
     struct jobs to_do; /* for the workers */
     struct jobs unsynced; /* done but for what makes them durable */
+    struct job *doing[1 + MOST_WORKERS]; /* what workers and the loop do just now */
+    int doing_count;
     struct job *done;
     pthread_t threads[1 + MOST_WORKERS]; /* the first makes durable, the others are workers */
     int thread_count;
