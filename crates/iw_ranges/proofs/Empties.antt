@@ -3,7 +3,7 @@ use Rattle.std.proofs.Common.{◌≡◌, ℕ, ◌-◌, ◌<◌, ◌≤◌, ◌^�
 use Rattle.std.proofs.lemmas.Bool.Decides.{nat_tests}
 use Rattle.std.specs.List.{range_with_len}
 use Rattle.iw_ranges.specs.declared.spans.Span.{Span}
-use Rattle.iw_ranges.specs.Spans.{in_spans, IsFromStart, AreSpans, first_end}
+use Rattle.iw_ranges.specs.Spans.{in_spans, IsFromStart, AreSpans, EndPast, first_end}
 use Rattle.iw_ranges.specs.Arrived.{Arrived}
 use Rattle.iw_ranges.specs.Laws.{EmptiesPast}
 use Rattle.iw_ranges.specs.Fields.{Fields, cell_of, arrived_in, IsSound}
@@ -41,6 +41,7 @@ sound_empty f low is = record {
   low = low;
   gone_order = subst AreSpans (sym is.gone) tt;
   gone_came = λ p t. let e = sym (ap (in_spans p) is.gone) ∙ t in absurd (cc e);
+  gone_past = subst (EndPast f.floor) (sym is.gone) tt;
 }
 
 pub empty_is : (f : Fields) → IsEmpty f → arrived_in f ≡ record { floor = f.floor; cells = [] }

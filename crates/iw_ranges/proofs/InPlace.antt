@@ -40,6 +40,7 @@ sound_kept f ok octets base high stand held = record {
   low = ok.low;
   gone_order = ok.gone_order;
   gone_came = ok.gone_came;
+  gone_past = ok.gone_past;
 }
 
 -- ---- how much can be asked for

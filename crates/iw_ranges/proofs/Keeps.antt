@@ -4,7 +4,7 @@ use Rattle.std.proofs.lemmas.List.{get_or-drop}
 use Rattle.std.proofs.lemmas.Bool.{cases_lt}
 use Rattle.std.proofs.lemmas.Bool.Decides.{nat_tests}
 use Rattle.std.specs.Prelude.{nat_lt}
-use Rattle.iw_ranges.specs.Spans.{in_spans, IsFromStart, AreSpans, first_end, add_span, octet_after}
+use Rattle.iw_ranges.specs.Spans.{in_spans, IsFromStart, AreSpans, EndPast, first_end, add_span, octet_after}
 use Rattle.iw_ranges.specs.declared.Delivery.TheVariants.{Kept, Dropped}
 use Rattle.iw_ranges.specs.Arrived.{Cell, Missing, Here, Gone, Arrived, cell_at, in_segment, first_copy, taken_in, is_dropped, delivery, delivered, drawn, end_of, window, max_held}
 use Rattle.iw_ranges.specs.Fields.{Fields, cell_of, arrived_in, IsSound}
@@ -88,6 +88,7 @@ sound_put f after ok from to octets some near room puts few = record {
   gone_came = λ p t.
       in_after f after ok from to octets some puts p
       ∙ ap (λ v. (leb from p && ltb p to) || v) (ok.gone_came p (sym (ap (in_spans p) puts.gone) ∙ t)) ∙ or_true (leb from p && ltb p to);
+  gone_past = subst (λ n. EndPast n after.gone) (sym puts.floor) (subst (EndPast f.floor) (sym puts.gone) ok.gone_past);
 }
   where
     reached : 0 < after.end → ((leb from (after.end - 1) && ltb (after.end - 1) to) || in_spans (after.end - 1) f.spans) ≡ true

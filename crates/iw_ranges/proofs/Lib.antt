@@ -1,5 +1,6 @@
 pub mod Reaches
 pub mod Joins
+pub mod Ends
 pub mod Adds
 pub mod Fills
 pub mod Cells

@@ -7,12 +7,13 @@ use Rattle.std.proofs.lemmas.Bool.Decides.{nat_tests}
 use Rattle.std.specs.List.{range_with_len, concat}
 use Rattle.std.specs.Prelude.{nat_lt, nat_le, All}
 use Rattle.iw_ranges.specs.declared.spans.Span.{Span}
-use Rattle.iw_ranges.specs.Spans.{in_span, in_spans, IsApart, IsFromStart, AreSpans, first_end, add_span, spans_past, HasSameOctets}
+use Rattle.iw_ranges.specs.Spans.{in_span, in_spans, IsApart, IsFromStart, AreSpans, EndPast, first_end, add_span, spans_past, HasSameOctets}
 use Rattle.iw_ranges.specs.Arrived.{Cell, Missing, Here, Gone, Arrived, cell_at, has_come, advanced, given_up, released, cells_between, drawn, end_of, IsHere}
 use Rattle.iw_ranges.specs.Fields.{Fields, cell_of, arrived_in, IsSound}
 use Rattle.iw_ranges.specs.Parts.{parts_of}
 use Rattle.iw_ranges.proofs.Joins.{past_none, past_more, past_done}
 use Rattle.iw_ranges.proofs.Adds.{in_add, add_spans, in_order_spans}
+use Rattle.iw_ranges.proofs.Ends.{past_end, added_end}
 use Rattle.iw_ranges.proofs.Cells.{cell_missing, cell_gone, cell_here, cell_is, come_via, come_reaches, top_reaches, end_is, same_drawn, holds}
 use Rattle.iw_ranges.proofs.Counts.{or_false, or_true}
 
@@ -69,19 +70,22 @@ pub record KeepsGone (to : ℕ) (old new : List Span) : Type 0 where
   pub order : AreSpans new
   pub came : (p : ℕ) → in_spans p new ≡ true → in_spans p old ≡ true
   pub beyond : (p : ℕ) → to ≤ p → in_spans p new ≡ in_spans p old
+  pub past : EndPast to new
 
 pub forgot : (to : ℕ) (old new : List Span) → AreSpans old → new ≡ spans_past to old → KeepsGone to old new
 forgot to old new order is = record {
   order = subst AreSpans (sym is) (past_spans to old order);
   came = λ p t. past_in to old p (sym (ap (in_spans p) is) ∙ t);
   beyond = λ p low. ap (in_spans p) is ∙ in_past to old p low;
+  past = subst (EndPast to) (sym is) (past_end to old order);
 }
 
-pub untouched : (to : ℕ) (old : List Span) → AreSpans old → KeepsGone to old old
-untouched to old order = record {
+pub untouched : (to : ℕ) (old : List Span) → AreSpans old → EndPast to old → KeepsGone to old old
+untouched to old order past = record {
   order = order;
   came = λ p t. t;
   beyond = λ p low. refl;
+  past = past;
 }
 
 -- the in-order point and, where octets before it were let go, the buffer
@@ -112,6 +116,7 @@ sound_moved f after ok to low high small moves = record {
   low = omega (arith, moves.floor);
   gone_order = moves.gone.order;
   gone_came = λ p t. ap (in_spans p) moves.spans ∙ ok.gone_came p (moves.gone.came p t);
+  gone_past = subst (λ n. EndPast n after.gone) (sym moves.floor) moves.gone.past;
 }
 
 cell_moved : (f after : Fields) → IsSound f → (to p : ℕ) → MovesTo f after to → to ≤ p → cell_of after p ≡ cell_of f p
@@ -162,7 +167,7 @@ shorter_moves f ok octets base cut = record {
   missing = refl;
   end = refl;
   spans = refl;
-  gone = untouched f.floor f.gone ok.gone_order;
+  gone = untouched f.floor f.gone ok.gone_order ok.gone_past;
   octets = cut.octets;
   stand = omega (arith, ok.stand, cut.len, cut.low);
   len = omega (arith, cut.len);
@@ -197,8 +202,8 @@ pub record GivesUp (f after : Fields) (from to : ℕ) : Type 0 where
 in_given : (f after : Fields) → IsSound f → (from to p : ℕ) → from < to → GivesUp f after from to → in_spans p after.gone ≡ ((leb from p && ltb p to) || in_spans p f.gone)
 in_given f after ok from to p some gives = ap (in_spans p) gives.gone ∙ in_add p from to f.gone (omega arith) (in_order_spans f.gone ok.gone_order)
 
-pub sound_release : (f after : Fields) → IsSound f → (from to : ℕ) → from < to → ((p : ℕ) → from ≤ p → p < to → in_spans p f.spans ≡ true) → GivesUp f after from to → IsSound after
-sound_release f after ok from to some came gives = record {
+pub sound_release : (f after : Fields) → IsSound f → (from to : ℕ) → f.floor ≤ from → from < to → ((p : ℕ) → from ≤ p → p < to → in_spans p f.spans ≡ true) → GivesUp f after from to → IsSound after
+sound_release f after ok from to high some came gives = record {
   base = omega (arith, ok.base, gives.base, gives.floor);
   missing = gives.missing ∙ ok.missing ∙ sym (ap first_end gives.spans);
   order = subst IsFromStart (sym gives.spans) ok.order;
@@ -212,6 +217,7 @@ sound_release f after ok from to some came gives = record {
   low = omega (arith, ok.low, gives.floor);
   gone_order = subst AreSpans (sym gives.gone) (add_spans from to f.gone some ok.gone_order);
   gone_came = λ p t. ap (in_spans p) gives.spans ∙ go p (in_spans p f.gone) refl (sym (in_given f after ok from to p some gives) ∙ t);
+  gone_past = subst (λ n. EndPast n after.gone) (sym gives.floor) (subst (EndPast f.floor) (sym gives.gone) (added_end f.floor from to f.gone (omega (arith, high, some)) ok.gone_past));
 }
   where
     go : (p : ℕ) (v : Bool) → in_spans p f.gone ≡ v → ((leb from p && ltb p to) || in_spans p f.gone) ≡ true → in_spans p f.spans ≡ true

@@ -1,7 +1,7 @@
 -- What the fields of an `Islands` mean, and what they keep.
 use Rattle.std.specs.Prelude.{ℕ, ◌≡◌, ◌≤◌, ◌<◌, ◌+◌, ◌-◌, ◌^◌, true, List, length, drop, if◌then◌else◌, slice_index, vec_capacity}
 use Rattle.std.specs.VecDeque.{deque_len, deque_capacity}
-use Rattle.iw_ranges.specs.Spans.{in_spans, IsFromStart, AreSpans, first_end}
+use Rattle.iw_ranges.specs.Spans.{in_spans, IsFromStart, AreSpans, EndPast, first_end}
 use Rattle.iw_ranges.specs.Arrived.{Cell, Missing, Here, Gone, Arrived, Held, drawn, window, max_idle, max_held}
 use Rattle.iw_ranges.specs.declared.spans.Span.{Span}
 use Rattle.iw_ranges.specs.declared.Islands.TheInside.{Inside}
@@ -42,6 +42,8 @@ pub record IsSound (f : Fields) : Type 0 where
   pub low : f.floor ≤ 2 ^ 63
   pub gone_order : AreSpans f.gone
   pub gone_came : (p : ℕ) → in_spans p f.gone ≡ true → in_spans p f.spans ≡ true
+  -- what was given up and had its turn is not kept
+  pub gone_past : EndPast f.floor f.gone
 
 -- and with it the memory of the buffer
 pub record IsKept (f : Fields) (memory : ℕ) : Type 0 where

@@ -35,6 +35,11 @@ abbrev pub AreSpans : List Span → Type 0
 AreSpans [] = Unit {0}
 AreSpans (s ∷ ss) = (s.from < s.to) × IsApart s.to ss
 
+-- each of these spans ends past place m
+abbrev pub EndPast : ℕ → List Span → Type 0
+EndPast m [] = Unit {0}
+EndPast m (s ∷ ss) = (m < s.to) × EndPast m ss
+
 -- the span at i is the first that ends at `from` or past it, or there is none and i is their number
 pub record IsFirstReaching (ss : List Span) (from i : ℕ) : Type 0 where
   pub within : i ≤ length ss

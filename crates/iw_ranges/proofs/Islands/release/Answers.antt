@@ -13,7 +13,7 @@ invariant_of-self g c =
     let came : (p : ℕ) → from ≤ p → p < c.args.to → in_spans p f.spans ≡ true = λ p low high.
     sym (come_via f c.self.invariant.sound c.args.self.now.arrived (ap (λ (h : Held). h.arrived) c.self.view_is) p) ∙ c.requires.come p (omega (arith, c.max-from.ensures)) high in
     record {
-      sound = sound_release f _ c.self.invariant.sound from c.args.to c.if-from-to.true came (record { base = refl; floor = refl; missing = refl; end = refl; octets = refl; spans = refl; gone = c.join.ensures.items });
+      sound = sound_release f _ c.self.invariant.sound from c.args.to (omega (arith, c.max-from.ensures)) c.if-from-to.true came (record { base = refl; floor = refl; missing = refl; end = refl; octets = refl; spans = refl; gone = c.join.ensures.items });
       idle = c.self.invariant.idle;
       most = c.self.invariant.most;
     }
