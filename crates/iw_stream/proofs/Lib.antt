@@ -23,6 +23,7 @@ pub mod Arriving
 pub mod Waiting
 pub mod Early
 pub mod Lengths
+pub mod Most
 pub mod Passing
 pub mod InPlace
 pub mod TakenIn

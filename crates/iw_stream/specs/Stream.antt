@@ -264,6 +264,13 @@ abbrev pub emission_fetched : StreamState → ResponsePart → Result (List ℕ)
 emission_fetched s part (Ok frame) = emissions.Fetched s.sent (length frame) part.stag part.to part.n
 emission_fetched s part (Err fault) = emissions.Fault fault
 
+-- no frame
+abbrev pub IsNothing : Emission → Type 0
+IsNothing (emissions.Frame from len) = ⊥
+IsNothing (emissions.Fetched from len stag to n) = ⊥
+IsNothing (emissions.Fault fault) = Unit {0}
+IsNothing emissions.Nothing = Unit {0}
+
 abbrev pub emission_due : Table → StreamState → Due → Emission
 emission_due table s StartUp = emissions.Frame s.sent (length (own_frame s.start))
 emission_due table s (LastWord payload) = emissions.Frame s.sent (length (frame_of_terminate s payload))

@@ -1,4 +1,5 @@
-ghost use Rattle.std.specs.Prelude.{◌≡◌, is_some};
+ghost use Rattle.std.specs.Prelude.{◌≡◌, ◌≤◌, is_some, length, IfSome};
+ghost use Rattle.std.specs.Option.{option_map};
 ghost use Rattle.iw_stream.specs.Ending.{has_ended, is_broken, last_word};
 
 use arrayvec::ArrayVec;
@@ -28,6 +29,17 @@ impl Ending {
         ensures { result ≡ is_broken self.now }
     {
         matches!(self, Ending::Broken)
+    }
+
+    // How long the payload of the Terminate is that is due, if one is.
+    pub(crate) fn last_word_len(&self) -> Option<usize>
+        ensures len { result ≡ option_map length (last_word self.now) }
+        ensures few { IfSome result (λ n. n ≤ MAX_TERMINATE) }
+    {
+        match self {
+            Ending::Over(Some(payload)) => Some(payload.len()),
+            _ => None,
+        }
     }
 
     // Whether a Terminate is due.

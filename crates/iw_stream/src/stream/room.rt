@@ -47,7 +47,7 @@ fn rtr_len(rtr: Rtr) -> usize
 
 impl<A: Allocator> Stream<A> {
     ghost use Rattle.iw_stream.specs.Stream.{part_due, response_due, message_due, frame_of, octets_due, emitted};
-    ghost use Rattle.iw_stream.specs.Stream.{NextPart, Response, NoneDue, due, is_none_due};
+    ghost use Rattle.iw_stream.specs.Stream.{NextPart, Response, NoneDue, due, is_none_due, emission_of, IsNothing};
 
     /// How many octets the next call of [`Stream::emit`] appends, unless it is out of memory: none if nothing is due, or if
     /// the peer may not read what is to be fetched.
@@ -67,6 +67,22 @@ impl<A: Allocator> Stream<A> {
         match self.rtr_due() {
             Some(rtr) => self.frame_len(rtr_len(rtr)),
             None => self.message_len(memory),
+        }
+    }
+
+    /// At least as many octets as the next call of [`Stream::emit`] appends: what the maximum ULPDU allows. It takes less time
+    /// than [`Stream::due_len`], since it does not look at what is due. (Its second clause says that a frame has octets.)
+    pub fn most_due(&self) -> usize
+        requires { self.now.sent ≤ 2 ^ 62 }
+        ensures most { (table : Table) → length (emitted table self.now) ≤ result }
+        ensures some { (table : Table) → length (emitted table self.now) ≡ 0 → IsNothing (emission_of table self.now) }
+    {
+        if self.owes_frame() {
+            return self.start.first_place_out() as usize;
+        }
+        match self.ending.last_word_len() {
+            Some(len) => self.frame_len(UNTAGGED_HEADER + len),
+            None => self.frame_len(self.mulpdu as usize),
         }
     }
 
