@@ -8,4 +8,8 @@ pub mod Steps
 pub mod Alone
 pub mod TakenIn
 pub mod Used
+pub mod Rewritten
+pub mod Calls
 pub mod Limited
+pub mod Spared
+pub mod Unseen

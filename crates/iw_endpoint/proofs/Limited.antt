@@ -1,9 +1,8 @@
 -- A call on one stream passes by the regions that are limited to another.
-use Rattle.std.proofs.Common.{◌≡◌, ◌==◌, ℕ, zero, suc, ◌+◌, Bool, true, false, cond, not, List, [], ◌∷◌, length, set, get_or, Option, Some, None, Ok, refl, sym, ap, subst, ◌∙◌, inl, inr}
-use Rattle.std.specs.Prelude.{◌^◌, IsSomeAnd, IfSome, is_some, is_none, unwrap_or, nat_le, nat_lt, replicate, if◌then◌else◌}
-use Rattle.std.specs.Option.{option_map, option_map_or, option_or}
-use Rattle.std.specs.List.{position_or_len}
-use Rattle.std.proofs.lemmas.Bool.{cases_lt, ne_eqb, eqb-true}
+use Rattle.std.proofs.Common.{◌≡◌, ◌==◌, ℕ, Bool, true, false, cond, not, List, [], ◌∷◌, length, set, get_or, Option, Some, None, refl, sym, ap, subst, ◌∙◌, inl, inr}
+use Rattle.std.specs.Prelude.{IsSomeAnd, IfSome, unwrap_or, replicate, if◌then◌else◌}
+use Rattle.std.specs.Option.{option_map, option_map_or}
+use Rattle.std.proofs.lemmas.Bool.{cases_lt, ne_eqb}
 use Rattle.std.proofs.lemmas.Bool.Decides.{eqb_tells}
 use Rattle.std.proofs.lemmas.List.{set_past}
 use Rattle.std.proofs.lemmas.Option.{none-some}
@@ -11,40 +10,37 @@ use Rattle.iw_octets.specs.declared.stag.Stag.{Stag}
 use Rattle.iw_memory.specs.declared.peer.Peer.{Peer}
 use Rattle.iw_memory.specs.declared.refusal.Deny.{Deny}
 use Rattle.iw_memory.specs.declared.refusal.Deny.TheVariants.{NotAssociated, Invalid}
-use Rattle.iw_memory.specs.declared.refusal.InvalidateDeny.{InvalidateDeny}
 use Rattle.iw_memory.specs.declared.refusal.InvalidateDeny.TheVariants.{NotAssociated as NotOwn, Invalid as NotValid, NotAllowed}
-use Rattle.iw_memory.specs.declared.refusal.RegisterRefusal.TheVariants.{NoDomain, DomainFull, TooLong, BaseWrap}
 use Rattle.iw_memory.specs.declared.rights.Right.{Right}
 use Rattle.iw_memory.specs.Laws.{ChangesOneStag, Serves, IsOutOfScope, AnswersAlike, DiffersOutOfScope}
-use Rattle.iw_memory.specs.Part.{Part, SlotState, unused, own_slots, under_key, own_region, own_changed, free_slot, own_register_refusal, own_next_stag, region_invalidate_denial}
-use Rattle.iw_memory.specs.Region.{Region, bound_region, is_in_scope, is_bound_to, made_invalid, retired_region, region_denial, region_denial_for, octets_from, overlay}
-use Rattle.iw_memory.specs.Table.{Table, part_of, region_at, denial_for, invalidate_denial_for, octets_at, with_region, register_refusal, registered, retired}
+use Rattle.iw_memory.specs.Part.{own_region}
+use Rattle.iw_memory.specs.Region.{Region, is_in_scope, is_bound_to, made_invalid, retired_region, region_denial, region_denial_for, octets_from}
+use Rattle.iw_memory.specs.Table.{Table, part_of, region_at, denial_for, invalidate_denial_for, octets_at, register_refusal, put, invalidated, retired}
 use Rattle.iw_memory.specs.TableLending.{overwritten}
-use Rattle.iw_memory.proofs.Callers.{allows, own_region-region_at, part_of-with_part_same, part_of-with_part_other}
-use Rattle.iw_memory.proofs.LawLemmas.{stag_cases, with_region-changes, registered-changes}
+use Rattle.iw_memory.proofs.Callers.{allows, no_octets, own_region-region_at}
+use Rattle.iw_memory.proofs.LawLemmas.{stag_cases, with_region-changes}
+use Rattle.iw_memory.proofs.TableLemmas.{put-nothing}
 use Rattle.iw_memory.proofs.ScopeLemmas.{out-kept, retires}
 use Rattle.iw_ranges.specs.declared.Delivery.{Delivery}
 use Rattle.iw_ranges.specs.declared.Delivery.TheVariants.{Kept, Dropped}
 use Rattle.iw_stream.specs.Stream as stream
 use Rattle.iw_stream.specs.Stream.{StreamState, peer_of, sees, emission_of, emitted, delivery_of}
-use Rattle.iw_stream.specs.Work.{work_step, table_worked}
+use Rattle.iw_stream.specs.Work.{table_worked}
 use Rattle.iw_endpoint.specs.declared.refusal.CallRefusal.TheVariants.{Refused}
-use Rattle.iw_endpoint.specs.declared.refusal.LimitRefusal.TheVariants as limits
 use Rattle.iw_endpoint.specs.Numbers.{put_at}
-use Rattle.iw_endpoint.specs.Endpoint.{EndpointState, Pool, fresh, no_streams, new_stream, new_shared, pool_of, lent_to, left_of, with_worked, with_stream, stream_of, stream_at, unopened, answer_at, refusal_at, rest_refusal, running_refusal, limit_refusal, limited, domain_refusal, added, registered as registered_at, store_refusal, stored, rewritten, open_refusal, opened, share_refusal, shared, pool_refusal, pooled, take_refusal, after_take, open_shared_refusal, opened_shared, next_refusal, opened_next, next_shared_refusal, opened_shared_next, answer_refusal, post_refusal, recv_refusal, first_refusal, size_refusal}
-use Rattle.iw_endpoint.specs.Isolation.{StreamCall, Accept, Reject, Post, PostRecv, FirstNumber, Deliver, Work, Emit, BreakLink, Close, RegisterFor, SetMulpdu, Private, Told, PeerOptions, Standing, HasDue, PeerFirst, Sent, DueLen, InOrderPoint, Limits, Call, AddDomain, Register, Deregister, Invalidate, Store, Facts, Local, LocalMut, Open, Share, PostShared, TakeShared, OpenShared, OpenNext, OpenSharedNext, AtStream, Worked, Emitted, Bound, Counted, stream_answer, after_stream, after, after_all, answer_or, unless, if_there}
+use Rattle.iw_endpoint.specs.Endpoint.{EndpointState, Pool, fresh, no_streams, new_stream, new_shared, pool_of, lent_to, left_of, with_worked, with_stream, stream_of, stream_at, unopened, refusal_at, rest_refusal, limit_refusal, limited, domain_refusal, added, registered as registered_at, store_refusal, stored, rewritten, open_refusal, opened, share_refusal, shared, pool_refusal, pooled, take_refusal, after_take, open_shared_refusal, opened_shared, next_refusal, opened_next, next_shared_refusal, opened_shared_next}
+use Rattle.iw_endpoint.specs.Isolation.{StreamCall, Accept, Reject, Post, PostRecv, FirstNumber, Deliver, Work, Emit, BreakLink, Close, RegisterFor, SetMulpdu, Private, Told, PeerOptions, Standing, HasDue, PeerFirst, Sent, DueLen, InOrderPoint, Limits, Call, AddDomain, Register, Deregister, Invalidate, Store, Facts, Local, LocalMut, Open, Share, PostShared, TakeShared, OpenShared, OpenNext, OpenSharedNext, AtStream, stream_answer, after_stream, after, after_all, unless, if_there}
 use Rattle.iw_endpoint.specs.Limited.{KnowNumbers, IsAnothers, LimitedRegionsAreApart, StreamsKnowTheirNumbers}
 use Rattle.iw_endpoint.proofs.Filled.{IsPut, nothing_in, put_is, set_is}
+use Rattle.iw_endpoint.proofs.Rewritten.{with_octets, found_invalidate, registered_keeps, put_passes, invalidated_passes}
+use Rattle.iw_endpoint.proofs.Calls.{told_alike, left_alike, worked_over}
 use Rattle.iw_endpoint.proofs.Steps.{closes, delivered}
-use Rattle.iw_endpoint.proofs.Tables.{none_taken, IsKeptBy, keeps-worked, same_step, same_emission, same_emitted, worked_number, emit_number}
+use Rattle.iw_endpoint.proofs.Tables.{none_taken, denies, keeps-worked, both-worked, same_emitted, worked_number, emit_number}
 
 -- ---- tables that differ out of the peer's scope
 
 abbrev found_denial : Option Region → Option ℕ → ℕ → ℕ → Right → Option Deny
 found_denial found stream to n right = option_map_or (λ r. region_denial_for r stream to n right) found (Some Invalid)
-
-abbrev found_invalidate : Option Region → Option ℕ → Option InvalidateDeny
-found_invalidate found stream = option_map_or (λ r. region_invalidate_denial r stream) found (Some NotValid)
 
 out_denial : (table : Table) (peer : Peer) (stag : Stag) (to n : ℕ) (right : Right) → IsOutOfScope table peer stag → found_denial (region_at table stag) peer.stream to n right ≡ Some NotAssociated
 out_denial table peer stag to n right out =
@@ -55,6 +51,13 @@ out_invalidate : (table : Table) (peer : Peer) (stag : Stag) → IsOutOfScope ta
 out_invalidate table peer stag out =
     ap (λ o. found_invalidate o peer.stream) out.found
     ∙ ap (λ b. cond (not b) (Some NotOwn) (cond (not out.region.valid) (Some NotValid) (cond (not out.region.rights.invalidate) (Some NotAllowed) None))) out.apart
+
+not_invalidated : (table : Table) (peer : Peer) (stag : Stag) → IsOutOfScope table peer stag → invalidate_denial_for table peer stag ≡ Some NotOwn
+not_invalidated table peer stag out = go (stag.domain == peer.domain) refl
+  where
+    go : (b : Bool) → (stag.domain == peer.domain) ≡ b → cond (not b) (Some NotOwn) (found_invalidate (own_region (part_of table peer.domain) stag) peer.stream) ≡ Some NotOwn
+    go false e = refl
+    go true e = ap (λ o. found_invalidate o peer.stream) (own_region-region_at table peer.domain stag e) ∙ out_invalidate table peer stag out
 
 not_served : (table : Table) (peer : Peer) (stag : Stag) (to n : ℕ) (right : Right) → IsOutOfScope table peer stag → IsSomeAnd (region_at table stag) (λ r. Serves r peer.stream to n right) → ⊥
 not_served table peer stag to n right out served = refuted (subst (λ o. IsSomeAnd o (λ r. Serves r peer.stream to n right)) out.found served)
@@ -111,9 +114,6 @@ module _ (old new : Table) (peer : Peer) (differs : DiffersOutOfScope old new pe
 
 -- ---- a region gets other octets
 
-abbrev with_octets : List ℕ → Region → Region
-with_octets octets r = record r { octets = overlay r.octets 0 octets }
-
 pub overwritten_differs : (table : Table) (peer : Peer) (stag : Stag) (octets : List ℕ) → IsOutOfScope table peer stag → DiffersOutOfScope table (overwritten table stag octets) peer
 overwritten_differs table peer stag octets out other = elim (stag_cases other stag) [
   | inr ne ↦ inl (changes.others other ne)
@@ -123,70 +123,9 @@ overwritten_differs table peer stag octets out other = elim (stag_cases other st
     changes : ChangesOneStag table (overwritten table stag octets) stag (option_map (with_octets octets) (region_at table stag))
     changes = with_region-changes table stag (with_octets octets)
 
--- the slots are free as they were, and have the keys that they had
-pub record HasSameRoom (p q : Part) : Type 0 where
-  pub there : is_some p ≡ is_some q
-  pub free : free_slot (own_slots p) ≡ free_slot (own_slots q)
-  pub key : (k : ℕ) → (get_or (own_slots p) k unused).key ≡ (get_or (own_slots q) k unused).key
-
-position_set : (p : SlotState → Bool) (xs : List SlotState) (i : ℕ) (y : SlotState) → p y ≡ p (get_or xs i unused) → position_or_len p (set xs i y) ≡ position_or_len p xs
-position_set p [] i y e = refl
-position_set p (x ∷ xs) zero y e = ap (λ b. cond (not b) (1 + position_or_len p xs) 0) e
-position_set p (x ∷ xs) (suc i) y e = ap (λ n. cond (not (p x)) (1 + n) 0) (position_set p xs i y e)
-
-key_set : (xs : List SlotState) (i k : ℕ) (y : SlotState) → y.key ≡ (get_or xs i unused).key → (get_or (set xs i y) k unused).key ≡ (get_or xs k unused).key
-key_set [] i k y e = refl
-key_set (x ∷ xs) zero zero y e = e
-key_set (x ∷ xs) zero (suc k) y e = refl
-key_set (x ∷ xs) (suc i) zero y e = refl
-key_set (x ∷ xs) (suc i) (suc k) y e = key_set xs i k y e
-
-no_slot : (k : ℕ) → get_or [] k unused ≡ unused
-no_slot zero = refl
-no_slot (suc k) = refl
-
-under_key_is : (s : SlotState) (key : ℕ) (r : Region) → under_key s key ≡ Some r → (s.region ≡ Some r) × (s.key ≡ key)
-under_key_is s key r is = go (s.key == key) refl is
-  where
-    go : (b : Bool) → (s.key == key) ≡ b → cond b s.region None ≡ Some r → (s.region ≡ Some r) × (s.key ≡ key)
-    go true e here = (here, eqb-true s.key key e)
-    go false e here = absurd (none-some r here)
-
-changed_room : (part : Part) (stag : Stag) (change : Region → Region) → HasSameRoom (own_changed part stag change) part
-changed_room part stag change = go (own_region part stag) refl
-  where
-    changed : (slots : List SlotState) (r : Region) → own_region (Some slots) stag ≡ Some r → HasSameRoom (Some (set slots stag.slot (record { key = stag.key; region = Some (change r) }))) (Some slots)
-    changed slots r is =
-        let here = under_key_is (get_or slots stag.slot unused) stag.key r is in record {
-          there = refl;
-          free = position_set (λ s. is_none s.region) slots stag.slot (record { key = stag.key; region = Some (change r) }) (sym (ap is_none here.0));
-          key = λ k. key_set slots stag.slot k (record { key = stag.key; region = Some (change r) }) (sym here.1);
-        }
-
-    found : (p : Part) (r : Region) → own_region p stag ≡ Some r → HasSameRoom (Some (set (own_slots p) stag.slot (record { key = stag.key; region = Some (change r) }))) p
-    found None r is = absurd (none-some r (ap (λ (s : SlotState). s.region) (sym (no_slot stag.slot)) ∙ (under_key_is (get_or [] stag.slot unused) stag.key r is).0))
-    found (Some slots) r is = changed slots r is
-
-    go : (o : Option Region) → own_region part stag ≡ o → HasSameRoom (option_map_or (λ r. Some (set (own_slots part) stag.slot (record { key = stag.key; region = Some (change r) }))) o part) part
-    go None is = record { there = refl; free = refl; key = λ k. refl }
-    go (Some r) is = found part r is
-
-pub same_room : (table : Table) (stag : Stag) (change : Region → Region) (d : ℕ) → HasSameRoom (part_of (with_region table stag change) d) (part_of table d)
-same_room table stag change d = elim (eqb_tells d stag.domain) [
-  | inr off ↦ subst (λ p. HasSameRoom p (part_of table d)) (sym (part_of-with_part_other table stag.domain d (own_changed (part_of table stag.domain) stag change) off.1)) (record { there = refl; free = refl; key = λ k. refl })
-  | inl here ↦ subst (λ x. HasSameRoom (part_of (with_region table stag change) x) (part_of table x)) (sym here.1) (elim (cases_lt stag.domain (length table)) [
-    | inl within ↦ subst (λ p. HasSameRoom p (part_of table stag.domain)) (sym (part_of-with_part_same table stag.domain (own_changed (part_of table stag.domain) stag change) within)) (changed_room (part_of table stag.domain) stag change)
-    | inr past ↦ subst (λ (u : Table). HasSameRoom (part_of u stag.domain) (part_of table stag.domain)) (sym (set_past table stag.domain (own_changed (part_of table stag.domain) stag change) past)) (record { there = refl; free = refl; key = λ k. refl })
-  ])
-]
-
-room_refusal : (p q : Part) (base len : ℕ) → HasSameRoom p q → own_register_refusal p base len ≡ own_register_refusal q base len
-room_refusal p q base len h =
-    λ i. if not (h.there i) then Some NoDomain else (if nat_le 1024 (h.free i) then Some DomainFull else (if nat_lt 16777216 len then Some TooLong else (if nat_lt (2 ^ 64) (base + len) then Some BaseWrap else None)))
-
-room_stag : (p q : Part) (pd : ℕ) → HasSameRoom p q → own_next_stag p pd ≡ own_next_stag q pd
-room_stag p q pd h =
-    λ i. record { domain = pd; slot = h.free i; key = (ap (λ k. (get_or (own_slots p) k unused).key) h.free ∙ h.key (free_slot (own_slots q))) i }
+-- no octets are put
+nothing_put : (table : Table) (stag : Stag) (to : ℕ) (octets : List ℕ) → length octets ≡ 0 → put table stag to octets ≡ table
+nothing_put table stag to octets nothing = ap (put table stag to) (no_octets octets nothing) ∙ put-nothing table stag to
 
 -- ---- a call passes by
 
@@ -207,20 +146,12 @@ module _ (e : EndpointState) (n : ℕ) (stag : Stag) (know : KnowNumbers e) (ano
   out_at : (s : StreamState) → stream_of e n ≡ Some s → IsOutOfScope e.table (peer_of s) stag
   out_at s is = out_is e n stag s anothers (known_at e n s know is)
 
-  kept_by : (peer : Peer) → IsOutOfScope e.table peer stag → IsKeptBy peer e.table K
-  kept_by peer out = record { all = refl; placed = (out-kept e.table peer stag out).placed; invalidated = (out-kept e.table peer stag out).invalidated }
+  lent_out : (s : StreamState) → stream_of e n ≡ Some s → (o : Option Pool) → IsOutOfScope e.table (peer_of (lent_to o s)) stag
+  lent_out s is None = out_at s is
+  lent_out s is (Some pool) = out_at s is
 
-  kept_unless : {R : Type 0} (q : Option R) (new : EndpointState) → K new.table → K (unless q e new).table
-  kept_unless None new k = k
-  kept_unless (Some r) new k = refl
-
-  kept_there : (o : Option StreamState) (new : EndpointState) → K new.table → K (if_there o e new).table
-  kept_there None new k = refl
-  kept_there (Some s) new k = k
-
-  worked_keeps : (s : StreamState) → IsOutOfScope e.table (peer_of s) stag → (o : Option Pool) → K (table_worked e.table (lent_to o s))
-  worked_keeps s out None = keeps-worked s e.table K (kept_by (peer_of s) out)
-  worked_keeps s out (Some pool) = keeps-worked (sees s pool) e.table K (kept_by (peer_of s) out)
+  worked_keeps : (s : StreamState) → IsOutOfScope e.table (peer_of s) stag → K (table_worked e.table s)
+  worked_keeps s out = keeps-worked s e.table K (record { all = refl; placed = (out-kept e.table (peer_of s) stag out).placed; invalidated = (out-kept e.table (peer_of s) stag out).invalidated })
 
   retired_keeps : (s : StreamState) → s.number ≡ Some n → K (retired e.table (peer_of s))
   retired_keeps s number = elim (eqb_tells stag.domain s.domain) [
@@ -232,94 +163,55 @@ module _ (e : EndpointState) (n : ℕ) (stag : Stag) (know : KnowNumbers e) (ano
     | inr off ↦ ap (λ part. own_region part stag) ((retires e.table (peer_of s)).others stag.domain off.1)
   ]
 
-  registered_keeps : (pd : ℕ) (region : Region) → K (registered e.table pd region)
-  registered_keeps pd region = elim (cases_lt pd (length e.table)) [
-    | inr past ↦ ap (λ t. region_at t stag) (set_past e.table pd _ past)
-    | inl within ↦
-        (let r = registered-changes e.table pd region within in
-        r.named.others stag (λ same. none-some anothers.region (sym r.was_free ∙ ap (region_at e.table) (sym same) ∙ anothers.found)))
-  ]
-
-  kept : (call : StreamCall) → K (after_stream e n call).table
-  kept (Accept private) = kept_unless (answer_refusal e n private.items) _ refl
-  kept (Reject private) = kept_unless (answer_refusal e n private.items) _ refl
-  kept (Post request) = kept_unless (post_refusal e n request) _ refl
-  kept (PostRecv buffer) = kept_unless (recv_refusal e n) _ refl
-  kept (FirstNumber first) = kept_unless (first_refusal e n) _ refl
-  kept (Deliver from octets) = kept_there (stream_of e n) _ refl
-  kept Work = go (stream_of e n) refl
-    where
-      go : (o : Option StreamState) → stream_of e n ≡ o → K (if_there o e (with_worked e n (unwrap_or o unopened))).table
-      go None is = refl
-      go (Some s) is = worked_keeps s (out_at s is) (pool_of e s.domain)
-  kept Emit = kept_there (stream_of e n) _ refl
-  kept BreakLink = kept_there (stream_of e n) _ refl
-  kept Close = go (stream_of e n) refl
-    where
-      go : (o : Option StreamState) → stream_of e n ≡ o → K (unless (refusal_at o rest_refusal) e (closes e n (unwrap_or o unopened))).table
-      go None is = refl
-      go (Some s) is = kept_unless (option_map Refused (rest_refusal s)) (closes e n s) (retired_keeps s (known_at e n s know is))
-  kept (RegisterFor base octets rights) = kept_unless (limit_refusal e n base (length octets)) _ (registered_keeps (stream_at e n).domain (bound_region n base octets rights))
-  kept (SetMulpdu size) = kept_unless (size_refusal e n size) _ refl
-  kept Private = refl
-  kept Told = refl
-  kept PeerOptions = refl
-  kept Standing = refl
-  kept HasDue = refl
-  kept PeerFirst = refl
-  kept Sent = refl
-  kept DueLen = refl
-  kept InOrderPoint = refl
-  kept Limits = refl
-
   module _ (octets : List ℕ) where
     abbrev t : Table
     t = overwritten e.table stag octets
 
-    answers : (s : StreamState) → stream_of e n ≡ Some s → AnswersAlike e.table t (peer_of s)
-    answers s is = answered_alike e.table t (peer_of s) (overwritten_differs e.table (peer_of s) stag octets (out_at s is))
+    answers : (peer : Peer) → IsOutOfScope e.table peer stag → AnswersAlike e.table t peer
+    answers peer out = answered_alike e.table t peer (overwritten_differs e.table peer stag octets out)
 
-    step_unseen : (s : StreamState) → stream_of e n ≡ Some s → (o : Option Pool) → work_step t (lent_to o s) ≡ work_step e.table (lent_to o s)
-    step_unseen s is None = same_step s t e.table (answers s is)
-    step_unseen s is (Some pool) = same_step (sees s pool) t e.table (answers s is)
+    put_passes_by : (peer : Peer) → IsOutOfScope e.table peer stag → (other : Stag) (to : ℕ) (new : List ℕ) (right : Right) → denial_for e.table peer other to (length new) right ≡ None → put t other to new ≡ overwritten (put e.table other to new) stag octets
+    put_passes_by peer out other to new right none = elim (stag_cases other stag) [
+      | inr ne ↦ put_passes e.table stag anothers.region anothers.found octets other to new ne
+      | inl same ↦ elim (allows e.table peer other to (length new) right none) [
+        | inl nothing ↦
+            nothing_put t other to new nothing ∙ ap (λ u. overwritten u stag octets) (sym (nothing_put e.table other to new nothing))
+        | inr allowed ↦ absurd (not_served e.table peer stag to (length new) right out (subst (λ x. IsSomeAnd (region_at e.table x) (λ r. Serves r peer.stream to (length new) right)) same allowed.1))
+      ]
+    ]
 
-    told_unseen : {A : Type 0} (o : Option StreamState) (f g : StreamState → A) → ((s : StreamState) → o ≡ Some s → f s ≡ g s) → answer_at o (λ s. f (unwrap_or o unopened)) ≡ answer_at o (λ s. g (unwrap_or o unopened))
-    told_unseen None f g same = refl
-    told_unseen (Some s) f g same = ap Ok (same s refl)
+    invalidated_passes_by : (peer : Peer) → IsOutOfScope e.table peer stag → (other : Stag) → invalidate_denial_for e.table peer other ≡ None → invalidated t other ≡ overwritten (invalidated e.table other) stag octets
+    invalidated_passes_by peer out other none =
+        invalidated_passes e.table stag anothers.region anothers.found octets other
+        (λ same. none-some NotOwn (sym none ∙ ap (invalidate_denial_for e.table peer) same ∙ not_invalidated e.table peer stag out))
+
+    table_over : (s : StreamState) → IsOutOfScope e.table (peer_of s) stag → table_worked t s ≡ overwritten (table_worked e.table s) stag octets
+    table_over s out =
+        let both = answers (peer_of s) out in
+        both-worked s t e.table (λ new old. new ≡ overwritten old stag octets) (record {
+          all = refl;
+          placed = λ other to new right none. put_passes_by (peer_of s) out other to new right (sym (both.denied other to (length new) right) ∙ none);
+          invalidated = λ other none. invalidated_passes_by (peer_of s) out other (sym (both.invalidate_denied other) ∙ none);
+        }) (denies both)
+
+    both_left : (call : StreamCall) → K (after_stream e n call).table × (after_stream (rewritten e stag octets) n call ≡ rewritten (after_stream e n call) stag octets)
+    both_left call =
+        left_alike e n stag anothers.region anothers.found octets K (λ new old. K old.table × (new ≡ rewritten old stag octets)) refl
+        (λ s is. retired_keeps s (known_at e n s know is)) (λ pd region. registered_keeps e.table pd region stag anothers.region anothers.found) (λ new kept. (kept, refl))
+        (λ s is.
+        let x = lent_to (pool_of e s.domain) s in
+        let out = lent_out s is (pool_of e s.domain) in
+        (worked_keeps x out, worked_over e n stag anothers.region anothers.found octets s octets (table_over x out))) call
 
     unseen : (call : StreamCall) → stream_answer (rewritten e stag octets) n call ≡ stream_answer e n call
-    unseen (Accept private) = refl
-    unseen (Reject private) = refl
-    unseen (Post request) = refl
-    unseen (PostRecv buffer) = refl
-    unseen (FirstNumber first) = refl
-    unseen (Deliver from came) = refl
-    unseen Work = go (stream_of e n) refl
-      where
-        go : (o : Option StreamState) → stream_of e n ≡ o → Worked (answer_at o (λ s. work_step t (lent_to (pool_of e s.domain) s))) ≡ Worked (answer_at o (λ s. work_step e.table (lent_to (pool_of e s.domain) s)))
-        go None is = refl
-        go (Some s) is = ap (λ x. Worked (Ok x)) (step_unseen s is (pool_of e s.domain))
-    unseen Emit =
-        λ i. Emitted (told_unseen (stream_of e n) (emission_of t) (emission_of e.table) (λ s is. same_emission s t e.table (answers s is)) i) (told_unseen (stream_of e n) (emitted t) (emitted e.table) (λ s is. same_emitted s t e.table (answers s is)) i)
-    unseen BreakLink = refl
-    unseen Close = refl
-    unseen (RegisterFor base theirs rights) =
-        let room = same_room e.table stag (with_octets octets) (stream_at e n).domain in
-        (λ i. Bound (answer_or (option_or (running_refusal e n) (option_map (λ refusal. Refused (limits.Refused refusal)) (room_refusal _ _ base (length theirs) room i))) (room_stag _ _ (stream_at e n).domain room i)))
-    unseen (SetMulpdu size) = refl
-    unseen Private = refl
-    unseen Told = refl
-    unseen PeerOptions = refl
-    unseen Standing = refl
-    unseen HasDue = refl
-    unseen PeerFirst = refl
-    unseen Sent = refl
-    unseen DueLen = ap Counted (told_unseen (stream_of e n) (λ s. length (emitted t s)) (λ s. length (emitted e.table s)) (λ s is. ap length (same_emitted s t e.table (answers s is))))
-    unseen InOrderPoint = refl
-    unseen Limits = refl
+    unseen call = told_alike e n stag anothers.region anothers.found octets (λ call. Unit {0}) (λ told s is. same_emitted s t e.table (answers (peer_of s) (out_at s is))) call tt
 
 pub limited_apart : LimitedRegionsAreApart
-limited_apart e n call stag know anothers = record { kept = kept e n stag know anothers call; unseen = λ octets. unseen e n stag know anothers octets call }
+limited_apart e n call stag know anothers = record {
+  kept = (both_left e n stag know anothers [] call).0;
+  unseen = λ octets. unseen e n stag know anothers octets call;
+  alike = λ octets. (both_left e n stag know anothers octets call).1;
+}
 
 -- ---- streams have the numbers that they were opened under
 
@@ -395,7 +287,7 @@ know_stream e n DueLen know = know
 know_stream e n InOrderPoint know = know
 know_stream e n Limits know = know
 
-know_step : (e : EndpointState) (call : Call) → KnowNumbers e → KnowNumbers (after e call)
+pub know_step : (e : EndpointState) (call : Call) → KnowNumbers e → KnowNumbers (after e call)
 know_step e (AddDomain pd) know = know_unless (domain_refusal e pd) e (added e pd) know know
 know_step e (Register pd base octets rights) know = know_unless (register_refusal e.table pd base (length octets)) e (registered_at e pd base octets rights) know know
 know_step e (Deregister stag) know = know

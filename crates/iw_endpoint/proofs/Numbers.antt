@@ -81,11 +81,12 @@ module _ {X : Type 0} where
     below = λ n k is. keeps.below n k (sym (ks n) ∙ is);
     there = λ n k is. subst (λ o. IsSome o) (sym (ps k)) (keeps.there n k (sym (ks n) ∙ is));
     apart = λ n m k a b. keeps.apart n m k (sym (ks n) ∙ a) (sym (ks m) ∙ b);
+    owned = λ k there. let owner = keeps.owned k (subst (λ o. IsSome o) (ps k) there) in (owner.0, ks owner.0 ∙ owner.1);
   }
 
   -- one more was put under a number
   module _ (keys new_keys : ℕ → Option ℕ) (places new_places : ℕ → Option X) (next n k : ℕ) (x : X) (keeps : Keeps keys places next)
-      (kept : Changes keys new_keys n (Some k)) (put : Changes places new_places k (Some x)) (vacant : places k ≡ None) where
+      (kept : Changes keys new_keys n (Some k)) (put : Changes places new_places k (Some x)) (vacant : places k ≡ None) (free : keys n ≡ None) where
     elsewhere : (m j : ℕ) → keys m ≡ Some j → j ≢ k
     elsewhere m j is same = absurd (go (places k) vacant (subst (λ i. IsSome (places i)) same (keeps.there m j is)))
       where
@@ -112,8 +113,15 @@ module _ {X : Type 0} where
       below = λ m j is. below m j is (cases_eq m n);
       there = λ m j is. there m j is (cases_eq m n);
       apart = λ a b j at_a at_b. apart a b j at_a at_b (cases_eq a n) (cases_eq b n);
+      owned = λ j there. owned j there (cases_eq j k);
     }
       where
+        owned : (j : ℕ) → IsSome (new_places j) → (j ≡ k) ⊎ (j ≢ k) → (m : ℕ) × (new_keys m ≡ Some j)
+        owned j there (inl same) = (n, kept.changed ∙ ap Some (sym same))
+        owned j there (inr ne) =
+            let owner = keeps.owned j (subst (λ o. IsSome o) (put.others j ne) there) in
+            (owner.0, kept.others owner.0 (λ same. none-some j (sym free ∙ ap keys (sym same) ∙ owner.1)) ∙ owner.1)
+
         was : (m j : ℕ) → m ≢ n → new_keys m ≡ Some j → keys m ≡ Some j
         was m j ne is = sym (kept.others m ne) ∙ is
 
@@ -149,32 +157,44 @@ module _ {X : Type 0} where
       below = keeps.below;
       there = λ m j at. there m j at (cases_eq j k);
       apart = keeps.apart;
+      owned = λ j there. owned j there (cases_eq j k);
     }
       where
+        owned : (j : ℕ) → IsSome (new_places j) → (j ≡ k) ⊎ (j ≢ k) → (m : ℕ) × (keys m ≡ Some j)
+        owned j there (inl same) = (n, is ∙ ap Some (sym same))
+        owned j there (inr ne) = keeps.owned j (subst (λ o. IsSome o) (put.others j ne) there)
+
         there : (m j : ℕ) → keys m ≡ Some j → (j ≡ k) ⊎ (j ≢ k) → IsSome (new_places j)
         there m j at (inl same) = subst (λ i. IsSome (new_places i)) (sym same) (subst (λ o. IsSome o) (sym put.changed) refl)
         there m j at (inr ne) = subst (λ o. IsSome o) (sym (put.others j ne)) (keeps.there m j at)
 
   -- what lay at a number's place was taken out
   module _ (keys new_keys : ℕ → Option ℕ) (places new_places : ℕ → Option X) (next n k : ℕ) (keeps : Keeps keys places next)
-      (is : keys n ≡ Some k) (gone : Changes keys new_keys n None) (out : Changes places new_places k None) where
+      (is : keys n ≡ Some k) (gone : Changes keys new_keys n None) (others : (j : ℕ) → j ≢ k → new_places j ≡ places j) where
     elsewhere_still : (m j : ℕ) → m ≢ n → keys m ≡ Some j → j ≢ k
     elsewhere_still m j ne at same = ne (keeps.apart m n k (at ∙ ap Some same) is)
 
     pub listed_removed : listed new_keys new_places next ≡ set (listed keys places next) n None
     listed_removed = set_number (found keys places) (found new_keys new_places) next n None (keeps.below n k is)
         (found_none new_keys new_places n gone.changed)
-        (λ m ne. same_found keys new_keys places new_places m (gone.others m ne) (λ j at. out.others j (elsewhere_still m j ne at)))
+        (λ m ne. same_found keys new_keys places new_places m (gone.others m ne) (λ j at. others j (elsewhere_still m j ne at)))
 
-    pub keeps_removed : Keeps new_keys new_places next
-    keeps_removed = record {
+    pub keeps_removed : new_places k ≡ None → Keeps new_keys new_places next
+    keeps_removed empty = record {
       least = keeps.least;
       most = keeps.most;
       below = λ m j at. below m j at (cases_eq m n);
       there = λ m j at. there m j at (cases_eq m n);
       apart = λ a b j at_a at_b. apart a b j at_a at_b (cases_eq a n) (cases_eq b n);
+      owned = λ j there. owned j there (cases_eq j k);
     }
       where
+        owned : (j : ℕ) → IsSome (new_places j) → (j ≡ k) ⊎ (j ≢ k) → (m : ℕ) × (new_keys m ≡ Some j)
+        owned j there (inl same) = absurd (false≢true (ap is_some (sym empty ∙ ap new_places (sym same)) ∙ there))
+        owned j there (inr ne) =
+            let owner = keeps.owned j (subst (λ o. IsSome o) (others j ne) there) in
+            (owner.0, gone.others owner.0 (λ same. ne (same_Some j k (sym owner.1 ∙ ap keys same ∙ is))) ∙ owner.1)
+
         none_here : (m j : ℕ) → m ≡ n → new_keys m ≡ Some j → ⊥
         none_here m j same at = none-some j (sym gone.changed ∙ ap new_keys (sym same) ∙ at)
 
@@ -187,7 +207,7 @@ module _ {X : Type 0} where
 
         there : (m j : ℕ) → new_keys m ≡ Some j → (m ≡ n) ⊎ (m ≢ n) → IsSome (new_places j)
         there m j at (inl same) = absurd (none_here m j same at)
-        there m j at (inr ne) = let old = was m j ne at in subst (λ o. IsSome o) (sym (out.others j (elsewhere_still m j ne old))) (keeps.there m j old)
+        there m j at (inr ne) = let old = was m j ne at in subst (λ o. IsSome o) (sym (others j (elsewhere_still m j ne old))) (keeps.there m j old)
 
         apart : (a b j : ℕ) → new_keys a ≡ Some j → new_keys b ≡ Some j → (a ≡ n) ⊎ (a ≢ n) → (b ≡ n) ⊎ (b ≢ n) → a ≡ b
         apart a b j at_a at_b (inl x) y = absurd (none_here a j x at_a)
@@ -220,28 +240,35 @@ module _ {X : Type 0} where
 
   -- one more was put under a number, or under the next
   module _ (keys new_keys : ℕ → Option ℕ) (places new_places : ℕ → Option X) (next n later : ℕ) (x : X) (xs : List (Option X)) (keeps : Keeps keys places next) (is : listed keys places next ≡ xs)
-      (within : n ≤ length xs) (more : later ≡ max next (n + 1)) (laid : IsLaid keys new_keys places new_places n x) where
+      (within : n ≤ length xs) (more : later ≡ max next (n + 1)) (none : get_or xs n None ≡ None) (laid : IsLaid keys new_keys places new_places n x) where
+    free : keys n ≡ None
+    free = go (keys n) refl
+      where
+        go : (o : Option ℕ) → keys n ≡ o → keys n ≡ None
+        go None at = at
+        go (Some k) at = absurd (false≢true (ap is_some (sym (there_at keys places next n k xs keeps is at ∙ none)) ∙ keeps.there n k at))
+
     size_is : length xs ≡ next
     size_is = size_listed keys places next xs is
 
     pub keeps_laid : n < 2 ^ 32 → Keeps new_keys new_places later
     keeps_laid below =
         let most = keeps.most in
-        keeps_put keys new_keys places new_places next n laid.place x keeps laid.kept laid.put laid.vacant later (omega (arith, more)) (omega (arith, more)) (omega (arith, more, most, below))
+        keeps_put keys new_keys places new_places next n laid.place x keeps laid.kept laid.put laid.vacant free later (omega (arith, more)) (omega (arith, more)) (omega (arith, more, most, below))
 
     pub listed_laid : listed new_keys new_places later ≡ put_at xs n x
     listed_laid = elim (cases_lt n next) [
       | inl below ↦
           (let same : later ≡ next = omega (arith, more) in
           ap (listed new_keys new_places) same
-          ∙ listed_put keys new_keys places new_places next n laid.place x keeps laid.kept laid.put laid.vacant below
+          ∙ listed_put keys new_keys places new_places next n laid.place x keeps laid.kept laid.put laid.vacant free below
           ∙ ap (λ ys. set ys n (Some x)) is
           ∙ sym (put_within xs n x (omega (arith, below, size_is))))
       | inr past ↦
           (let last : n ≡ length xs = omega (arith, within, past, size_is) in
           let same : later ≡ next + 1 = omega (arith, more, within, past, size_is) in
           ap (listed new_keys new_places) same
-          ∙ listed_push keys new_keys places new_places next n laid.place x keeps laid.kept laid.put laid.vacant (last ∙ size_is)
+          ∙ listed_push keys new_keys places new_places next n laid.place x keeps laid.kept laid.put laid.vacant free (last ∙ size_is)
           ∙ ap (λ ys. ys ++ Some x ∷ []) is
           ∙ sym (put_last xs x)
           ∙ ap (λ m. put_at xs m x) (sym last))
@@ -259,13 +286,14 @@ module _ {X : Type 0} where
   listed_new keys places next none =
       sym (fill_by_all (found keys places) (replicate next None) next None (length-replicate next None) (λ k below. nothing_in next k ∙ sym (found_none keys places k (none k))))
 
-  pub keeps_new : (keys : ℕ → Option ℕ) (places : ℕ → Option X) (next : ℕ) → ((n : ℕ) → keys n ≡ None) → 64 ≤ next → next ≤ 2 ^ 32 → Keeps keys places next
-  keeps_new keys places next none least most = record {
+  pub keeps_new : (keys : ℕ → Option ℕ) (places : ℕ → Option X) (next : ℕ) → ((n : ℕ) → keys n ≡ None) → ((k : ℕ) → places k ≡ None) → 64 ≤ next → next ≤ 2 ^ 32 → Keeps keys places next
+  keeps_new keys places next none empty least most = record {
     least = least;
     most = most;
     below = λ n k is. absurd (none-some k (sym (none n) ∙ is));
     there = λ n k is. absurd (none-some k (sym (none n) ∙ is));
     apart = λ n m k a b. absurd (none-some k (sym (none n) ∙ a));
+    owned = λ k there. absurd (false≢true (ap is_some (sym (empty k)) ∙ there));
   }
 
   set_changes : (xs : List (Option X)) (k : ℕ) (x : X) → IsSome (get_or xs k None) → Changes (λ j. get_or xs j None) (λ j. get_or (set xs k (Some x)) j None) k (Some x)

@@ -19,6 +19,8 @@ module _ {X : Type 0} where
     pub there : (n k : ℕ) → keys n ≡ Some k → IsSome (places k)
     -- no two lie in one place
     pub apart : (n m k : ℕ) → keys n ≡ Some k → keys m ≡ Some k → n ≡ m
+    -- nothing is kept that no number finds
+    pub owned : (k : ℕ) → IsSome (places k) → (n : ℕ) × (keys n ≡ Some k)
 
 -- this is at k, and all else stays
 pub record Changes {X : Type 0} (old new : ℕ → Option X) (k : ℕ) (here : Option X) : Type 0 where

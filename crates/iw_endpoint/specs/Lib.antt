@@ -7,3 +7,4 @@ pub mod Isolation
 pub mod Reading
 pub mod Used
 pub mod Limited
+pub mod Copied

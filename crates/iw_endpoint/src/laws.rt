@@ -1,5 +1,6 @@
 ghost use Rattle.iw_endpoint.specs.Isolation.{CallsConcernOneDomain, DomainsAreAlone};
-ghost use Rattle.iw_endpoint.specs.Limited.{LimitedRegionsAreApart, StreamsKnowTheirNumbers};
+ghost use Rattle.iw_endpoint.specs.Limited.{LimitedRegionsAreApart, LimitedRegionsStayApart, LimitedRegionsAreHidden, StreamsKnowTheirNumbers};
+ghost use Rattle.iw_endpoint.specs.Copied.{RefusesCopiedOctets};
 ghost use Rattle.iw_endpoint.specs.Used.{NumbersAreUsedOnce};
 
 /// What a call answers, and how it changes the domain that it concerns, depend only on that domain's part of the
@@ -23,11 +24,31 @@ pub fn numbers_are_used_once()
     ensures { NumbersAreUsedOnce }
 {}
 
-/// A call on a stream leaves each region that is limited to another stream as it was, and neither what the call answers
-/// nor the octets that it emits depend on that region's octets. It holds if each stream has the number that it was opened
-/// under, as it does at each endpoint ([`streams_know_their_numbers`]).
+/// A call on a stream leaves each region that is limited to another stream as it was. Neither what the call answers nor the
+/// octets that it emits depend on that region's octets, and nothing else that it leaves does. It holds if each stream has the
+/// number that it was opened under, as it does at each endpoint ([`streams_know_their_numbers`]).
 pub fn limited_regions_are_apart()
     ensures { LimitedRegionsAreApart }
+{}
+
+/// The same of any list of calls, none of which is at the stream that the region is limited to, nor one by which the owner
+/// reads, writes, invalidates or deregisters the region: it stays as it was, and neither the answers nor what else the
+/// calls leave depend on its octets.
+pub fn limited_regions_stay_apart()
+    ensures { LimitedRegionsStayApart }
+{}
+
+/// Over any list of calls, those at its own stream and its owner's among them, the octets of a region that is limited to one
+/// stream are shown only by what `emit` appends at that stream, and by `local`, `local_mut` and `deregister` of its STag. All
+/// other answers, and all else that the calls leave, are the same whatever octets it had.
+pub fn limited_regions_are_hidden()
+    ensures { LimitedRegionsAreHidden }
+{}
+
+/// A step that copies a region limited to another stream to where its own peer may read it breaks the law, though it leaves
+/// that region as it was and tells nothing of it.
+pub fn refuses_copied_octets()
+    ensures { RefusesCopiedOctets }
 {}
 
 /// After any list of calls to a new endpoint, each stream has the number that it was opened under.

@@ -11,11 +11,13 @@
 //!    `take_shared`);
 //! 3. when the socket is writable, calls `emit` until it answers [`Emission::Nothing`], and writes out what was
 //!    appended;
-//! 4. when the socket is readable, reads from it right to where the octets are to stand (`read_from`; with a call of its
-//!    own, as C does, `lend_place` and `came`), or hands in octets that came apart from a socket's order with their sequence
-//!    number (`deliver`), then calls `work` until it answers [`Step::Idle`]. Each call does one step and returns what it did.
-//!    After [`Step::Asked`] the application calls `accept` or `reject`, then `work` again. Afterwards there may be more to
-//!    emit.
+//! 4. when the socket is readable, reads from it right to where the octets are to stand (`read_from`), then calls `work` until
+//!    it answers [`Step::Idle`]. Each call does one step and returns what it did. After [`Step::Asked`] the application calls
+//!    `accept` or `reject`, then `work` again. Afterwards there may be more to emit.
+//!
+//! In place of `read_from`, a program that reads by a call of its own reads to the place that `lend_place` names, and tells by
+//! `came` how many octets it read there. One whose octets come in another order than the peer sent them hands them in by
+//! `deliver`, with their sequence number.
 //!
 //! A stream ends by a fault, by the peer's Terminate, in its start-up, or when the application reports a broken link
 //! (`break_link`), for example because the connection closed. `emit` still appends the Terminate that a fault makes
@@ -32,17 +34,17 @@
 //! ([`domains_are_alone`]).
 //!
 //! A region is open to all streams of its domain, within its rights, or to one stream alone (`register_for`). No call on
-//! another stream changes or emits an octet of it ([`limited_regions_are_apart`]).
+//! another stream changes or emits an octet of it ([`limited_regions_are_apart`], and over lists of calls
+//! [`limited_regions_stay_apart`] and [`limited_regions_are_hidden`]).
 //!
-//! `add_domain`, `register`, `register_for`, `share`, `post_shared`, `open`, `open_shared`, `open_next`, `open_shared_next`, `post`, `post_recv`,
-//! `deliver`, `read_from`, `lend_place` and `emit` can run out of memory; so can `work`, when it judges a frame before its
-//! turn. Then nothing has changed, what was handed in is given back, and the call may be made again. No other call allocates.
+//! A call that runs out of memory changes nothing and gives back what was handed in, and may be made again. docs/LIMITS.md names
+//! the calls that take memory.
 //!
 //! # Example
 //!
 //! Parts of `crates/embedding`, which is the whole program: an endpoint with one domain and one stream; what the
-//! program does when octets came on the socket; and what it does, until the answer is `false`, when the socket is
-//! writable.
+//! program does when the socket is readable; how it hands in octets that it did not read from a socket; and what it does,
+//! until the answer is `false`, when the socket is writable.
 //!
 //! ```text
 //! let mut endpoint = Endpoint::new(alloc);
@@ -59,12 +61,28 @@
 //!     bail!("open: {refusal:?}");
 //! }
 //!
-//! pub(crate) fn octets_came<R: Runtime + AllocGlobal>(&mut self, rt: &R, octets: &[u8]) -> Result<()> {
-//!     if let Err(refusal) = self.endpoint.deliver(STREAM, self.next, octets) {
-//!         bail!("deliver: {refusal:?}");
+//! pub(crate) fn is_readable<R, S>(&mut self, rt: &R, socket: &mut S) -> Result<()>
+//! where
+//!     R: Runtime + AllocGlobal,
+//!     S: Read,
+//! {
+//!     match self.endpoint.read_from(STREAM, socket) {
+//!         Ok(Intake::Came(_) | Intake::Full) => self.work(rt),
+//!         Ok(Intake::End) => self.closed(rt),
+//!         Err(CallRefusal::Refused(error)) if is_for_later(error.kind()) => Ok(()),
+//!         Err(refusal) => bail!("read_from: {refusal:?}"),
 //!     }
-//!     self.next = number_after(self.next, octets);
-//!     self.work(rt)
+//! }
+//!
+//! // Hands in octets that came, of which the first has this sequence number.
+//! fn deliver(&mut self, number: u32, octets: &[u8]) -> Result<()> {
+//!     match self.endpoint.deliver(STREAM, number, octets) {
+//!         Ok(Delivery::Kept) => Ok(()),
+//!         // A stream that has ended drops what comes. On one that runs the octets would be missing for good.
+//!         Ok(Delivery::Dropped) if self.has_ended() => Ok(()),
+//!         Ok(Delivery::Dropped) => bail!("octets came too far ahead"),
+//!         Err(refusal) => bail!("deliver: {refusal:?}"),
+//!     }
 //! }
 //!
 //! // Appends what is to be written next. Returns whether there was anything to do.
@@ -105,8 +123,9 @@ pub use iw_stream::{
     StartupFault, Step,
 };
 pub use laws::{
-    calls_concern_one_domain, domains_are_alone, limited_regions_are_apart, numbers_are_used_once,
-    streams_know_their_numbers,
+    calls_concern_one_domain, domains_are_alone, limited_regions_are_apart,
+    limited_regions_are_hidden, limited_regions_stay_apart, numbers_are_used_once,
+    refuses_copied_octets, streams_know_their_numbers,
 };
 pub use refusal::{
     CallRefusal, LimitRefusal, NoSuchStream, NotAtRest, OpenNextRefusal, OpenSharedRefusal,

@@ -161,7 +161,8 @@ impl<A: Allocator> Streams<A> {
     pub(crate) fn put(&mut self, number: u32, stream: Stream<A>) -> Result<(), AllocError>
     where
         A: Copy,
-        requires { number ≤ length self.old }
+        requires within { number ≤ length self.old }
+        requires free { slice_index_or self.old number None ≡ None }
         ensures ok { OnOk result (self.new ≡ put_at self.old number stream) }
         ensures err { OnErr result (self.new ≡ self.old) }
     {
@@ -174,8 +175,9 @@ impl<A: Allocator> Streams<A> {
     pub(crate) fn remove(&mut self, number: u32)
         ensures { self.new ≡ slice_set self.old number None }
     {
-        if let Some(place) = self.keys.remove(&number) {
-            self.places.remove(place);
-        }
+        let Some(place) = self.keys.remove(&number) else {
+            return;
+        };
+        self.places.remove(place);
     }
 }

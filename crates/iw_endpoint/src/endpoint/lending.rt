@@ -67,7 +67,7 @@ impl<A: Allocator> Endpoint<A> {
     /// that came, and tells whether it did. None of it is dropped, unless the stream has ended: such a stream drops all.
     ///
     /// It takes none, and nothing changes, if `n` is 0 or more than 65,536. The same holds of a stream that runs if the window
-    /// has no room for so many, or if there is no memory for them since no place was lent. An `Err` changes nothing.
+    /// has no room for so many, or if no place was lent and there is no memory for them. An `Err` changes nothing.
     pub fn came(&mut self, number: u32, n: usize) -> Result<bool, NoSuchStream>
         ensures stream { is_ok result ≡ has_stream self.old number }
         ensures counted { IfOk result (λ came. MatchBool came (Counts self.old self.new number n) (self.new ≡ self.old)) }

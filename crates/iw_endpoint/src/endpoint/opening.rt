@@ -1,4 +1,4 @@
-ghost use Rattle.std.specs.Prelude.{◌≡◌, ◌<◌, ◌≤◌, false, length, Some, None, IfSome, IfNone, IfOk, IfErr, OnOk, OnErr};
+ghost use Rattle.std.specs.Prelude.{◌≡◌, ◌<◌, ◌≤◌, false, length, slice_index_or, Some, None, IfSome, IfNone, IfOk, IfErr, OnOk, OnErr};
 ghost use Rattle.iw_stream.specs.Stream.{StreamState, numbered};
 ghost use Rattle.iw_stream.specs.Starting.{exceeds_request};
 ghost use Rattle.iw_endpoint.specs.Endpoint.{open_shared_refusal_of};
@@ -28,6 +28,7 @@ impl<A: Allocator> Endpoint<A> {
     fn number_refusal(&self, number: u32, pd: u8) -> Option<OpenRefusal>
         ensures refused { result ≡ number_refusal self.now number pd }
         ensures within { IfNone result (number < length self.now.streams) }
+        ensures free { IfNone result (slice_index_or self.now.streams number None ≡ None) }
     {
         self.streams.limits();
         if number as usize >= STREAM_NUMBERS {
@@ -49,7 +50,8 @@ impl<A: Allocator> Endpoint<A> {
     ) -> Result<(), AllocError>
     where
         A: Copy,
-        requires { number ≤ length self.old.streams }
+        requires within { number ≤ length self.old.streams }
+        requires free { slice_index_or self.old.streams number None ≡ None }
         ensures ok { (s : StreamState) → IfOk stream (λ made. made ≡ s) → OnOk result (self.new ≡ with_next self.old number (numbered s number)) }
         ensures err { OnErr result (self.new ≡ self.old) }
     {
@@ -72,6 +74,7 @@ impl<A: Allocator> Endpoint<A> {
     ) -> Option<OpenRefusal>
         ensures refused { result ≡ open_refusal self.now number pd role config.now }
         ensures within { IfNone result (number < length self.now.streams) }
+        ensures free { IfNone result (slice_index_or self.now.streams number None ≡ None) }
         ensures fits { IfNone result (exceeds_request role config.now ≡ false) }
     {
         match self.number_refusal(number, pd) {
@@ -121,6 +124,7 @@ impl<A: Allocator> Endpoint<A> {
     ) -> Option<OpenSharedRefusal>
         ensures refused { result ≡ open_shared_refusal self.now number pd role config.now }
         ensures within { IfNone result (number < length self.now.streams) }
+        ensures free { IfNone result (slice_index_or self.now.streams number None ≡ None) }
         ensures fits { IfNone result (exceeds_request role config.now ≡ false) }
     {
         match self.number_refusal(number, pd) {

@@ -15,7 +15,7 @@ returns-in_err-lay-clause-err g c =
     in_error _ c.from_residual.result (listed_stays _ _ _ _ c.self.inside.next c.in_err-lay.ensures.err.0 c.in_err-lay.ensures.err.1 ∙ c.self.view_is)
 
 pub invariant_of-self-2 : goal.invariant_of-self-2
-invariant_of-self-2 g c = keeps_laid _ _ _ _ c.self.inside.next c.args.number c.max-self-inside.result c.args.stream c.args.self.now c.self.invariant c.self.view_is c.requires c.max-self-inside.ensures c.in_ok-lay.ensures.ok c.ranges.number.fits
+invariant_of-self-2 g c = keeps_laid _ _ _ _ c.self.inside.next c.args.number c.max-self-inside.result c.args.stream c.args.self.now c.self.invariant c.self.view_is c.requires.within c.max-self-inside.ensures c.requires.free c.in_ok-lay.ensures.ok c.ranges.number.fits
 
 pub returns-clause-ok : goal.returns-clause-ok
-returns-clause-ok g c = listed_laid _ _ _ _ c.self.inside.next c.args.number c.max-self-inside.result c.args.stream c.args.self.now c.self.invariant c.self.view_is c.requires c.max-self-inside.ensures c.in_ok-lay.ensures.ok
+returns-clause-ok g c = listed_laid _ _ _ _ c.self.inside.next c.args.number c.max-self-inside.result c.args.stream c.args.self.now c.self.invariant c.self.view_is c.requires.within c.max-self-inside.ensures c.requires.free c.in_ok-lay.ensures.ok

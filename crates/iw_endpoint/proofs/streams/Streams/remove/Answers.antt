@@ -5,18 +5,24 @@ use Rattle.std.specs.Map.{lookup}
 use Rattle.std.proofs.lemmas.Bool.{ne_eqb}
 use Rattle.slab.specs.Slab as slab
 use Rattle.iw_endpoint.specs.Inside.{Changes}
-use Rattle.iw_endpoint.proofs.Numbers.{nothing_removed, listed_removed, listed_stays}
+use Rattle.iw_endpoint.proofs.Numbers.{nothing_removed, keeps_removed, listed_removed, listed_stays}
 use Rattle.iw_endpoint.proofs.streams.Streams.remove.Goals as goal
 
-pub returns-in-Some : goal.returns-in-Some
-returns-in-Some g c =
+pub invariant_of-self-2 : goal.invariant_of-self-2
+invariant_of-self-2 g c =
     let n = c.args.number in
     let key : hash.get nat_eq c.self.inside.keys n ≡ Some c.in-Some.place = search rules in
     let u = c.remove.ensures.updates in
     let gone : Changes (hash.get nat_eq c.self.inside.keys) (hash.get nat_eq c.remove.new.self) n None = record { changed = u.1; others = λ m ne. u.2 m (ne_eqb n m (λ e. ne (sym e))) } in
-    let v = c.remove-in-Some.ensures.updates in
-    let out : Changes (slab.get c.self.inside.places) (slab.get c.remove-in-Some.new.self) c.in-Some.place None = record { changed = v.changed; others = v.others } in
-    listed_removed _ _ _ _ c.self.inside.next n c.in-Some.place c.self.invariant key gone out ∙ ap (λ ys. slice_set ys n None) c.self.view_is
+    keeps_removed _ _ _ _ c.self.inside.next n c.in-Some.place c.self.invariant key gone c.remove-2.ensures.updates.others c.remove-2.ensures.updates.changed
+
+pub returns : goal.returns
+returns g c =
+    let n = c.args.number in
+    let key : hash.get nat_eq c.self.inside.keys n ≡ Some c.in-Some.place = search rules in
+    let u = c.remove.ensures.updates in
+    let gone : Changes (hash.get nat_eq c.self.inside.keys) (hash.get nat_eq c.remove.new.self) n None = record { changed = u.1; others = λ m ne. u.2 m (ne_eqb n m (λ e. ne (sym e))) } in
+    listed_removed _ _ _ _ c.self.inside.next n c.in-Some.place c.self.invariant key gone c.remove-2.ensures.updates.others ∙ ap (λ ys. slice_set ys n None) c.self.view_is
 
 pub returns-in_default : goal.returns-in_default
 returns-in_default g c =
