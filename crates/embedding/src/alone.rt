@@ -26,7 +26,7 @@ fn open(alloc: Global) -> Result<Stream> {
 fn post_recv(stream: &mut Stream, buffer: Vec<u8>) -> Result<()> {
     match stream.post_recv(buffer) {
         Ok(()) => Ok(()),
-        Err((refusal, _)) => bail!("post_recv: {refusal:?}"),
+        Err((refusal, _)) => bail!("post_recv: {refusal}"),
     }
 }
 
@@ -38,7 +38,7 @@ fn post_send(stream: &mut Stream, octets: Bytes) -> Result<()> {
     };
     match stream.post(Request::Message(send)) {
         Ok(()) => Ok(()),
-        Err((refusal, _)) => bail!("post: {refusal:?}"),
+        Err((refusal, _)) => bail!("post: {refusal}"),
     }
 }
 

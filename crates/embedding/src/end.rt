@@ -23,14 +23,14 @@ const MOST_WRITTEN: usize = 65_536;
 pub(crate) struct End {
     name: &'static str,
     endpoint: Endpoint,
-    // What is written next.
+    // What was emitted, and the socket has not taken yet.
     out: Vec<u8>,
     // The private data with which a responder accepts.
     private: PrivateData,
 }
 
-// Whether a read or write that failed so is to be made again later.
-fn is_for_later(kind: ErrorKind) -> bool {
+/// Whether a read or write that failed so is to be made again later.
+pub(crate) fn is_for_later(kind: ErrorKind) -> bool {
     kind == ErrorKind::WouldBlock || kind == ErrorKind::Interrupted
 }
 
@@ -38,7 +38,7 @@ fn is_for_later(kind: ErrorKind) -> bool {
 pub(crate) fn open_endpoint(alloc: Global, role: Role) -> Result<Endpoint> {
     let mut endpoint = Endpoint::new(alloc);
     if let Err(refusal) = endpoint.add_domain(DOMAIN) {
-        bail!("add_domain: {refusal:?}");
+        bail!("add_domain: {refusal}");
     }
     let config = Config {
         markers: true,
@@ -47,7 +47,7 @@ pub(crate) fn open_endpoint(alloc: Global, role: Role) -> Result<Endpoint> {
         private: PrivateData::new(),
     };
     if let Err(refusal) = endpoint.open(STREAM, DOMAIN, role, config) {
-        bail!("open: {refusal:?}");
+        bail!("open: {refusal}");
     }
     Ok(endpoint)
 }
@@ -67,7 +67,7 @@ impl End {
     pub(crate) fn register(&mut self, octets: Vec<u8>, rights: Rights) -> Result<Stag> {
         match self.endpoint.register(DOMAIN, 0, octets, rights) {
             Ok(stag) => Ok(stag),
-            Err((refusal, _)) => bail!("register: {refusal:?}"),
+            Err((refusal, _)) => bail!("register: {refusal}"),
         }
     }
 
@@ -87,14 +87,14 @@ impl End {
     pub(crate) fn post(&mut self, request: Request<Bytes>) -> Result<()> {
         match self.endpoint.post(STREAM, request) {
             Ok(()) => Ok(()),
-            Err((refusal, _)) => bail!("post: {refusal:?}"),
+            Err((refusal, _)) => bail!("post: {refusal}"),
         }
     }
 
     pub(crate) fn post_recv(&mut self, buffer: Vec<u8>) -> Result<()> {
         match self.endpoint.post_recv(STREAM, buffer) {
             Ok(()) => Ok(()),
-            Err((refusal, _)) => bail!("post_recv: {refusal:?}"),
+            Err((refusal, _)) => bail!("post_recv: {refusal}"),
         }
     }
 
@@ -108,7 +108,7 @@ impl End {
             Ok(Intake::Came(_) | Intake::Full) => self.act(rt),
             Ok(Intake::End) => self.closed(rt),
             Err(CallRefusal::Refused(error)) if is_for_later(error.kind()) => Ok(()),
-            Err(refusal) => bail!("take: {refusal:?}"),
+            Err(refusal) => bail!("take: {refusal}"),
         }
     }
 
@@ -118,12 +118,21 @@ impl End {
         R: Runtime + AllocGlobal,
         S: Write,
     {
-        self.out.clear();
-        let filled = fill(&mut self.endpoint, STREAM, &mut self.out, MOST_WRITTEN)?;
-        socket.write_all(self.out.as_slice())?;
+        // What the socket did not take the last time is written first.
+        let filled = if self.out.is_empty() {
+            fill(&mut self.endpoint, STREAM, &mut self.out, MOST_WRITTEN)?
+        } else {
+            Filled::More
+        };
+        let any = filled != Filled::All || !self.out.is_empty();
+        match socket.write(self.out.as_slice()) {
+            Ok(taken) => drop(self.out.drain(..taken)),
+            Err(error) if is_for_later(error.kind()) => {}
+            Err(error) => return Err(error.into()),
+        }
         // What was posted may be done now.
         self.act(rt)?;
-        Ok(filled != Filled::All || !self.out.is_empty())
+        Ok(any)
     }
 
     /// Call it when the connection closed. All that was posted and is not done is handed back.
@@ -185,7 +194,7 @@ impl End {
         let _ = private.try_extend_from_slice(self.private.as_slice());
         match self.endpoint.accept(STREAM, private) {
             Ok(_) => Ok(()),
-            Err(refusal) => bail!("accept: {refusal:?}"),
+            Err(refusal) => bail!("accept: {refusal}"),
         }
     }
 

@@ -170,7 +170,22 @@ fn answer<R: Runtime + AllocGlobal>(
     Ok(())
 }
 
-// `c` opens a connection to `d`, and sends a message.
+// Carries what `c` has to write to `d`, which reads it. Then `c` is gone.
+fn read_rest<R: Runtime + AllocGlobal>(
+    rt: &R,
+    c: &mut End,
+    d: &mut NumberedEnd,
+    wire: &mut Vec<u8>,
+) -> Result<()> {
+    wire.clear();
+    c.is_writable(rt, wire)?;
+    c.closed(rt)?;
+    let mut rest = wire.as_slice();
+    d.is_readable(rt, &mut rest)?;
+    d.is_readable(rt, &mut rest)
+}
+
+// `c` opens a connection to `d`, and sends two messages, the second of which `d` reads from its socket.
 fn talk_by_numbers<R: Runtime + AllocGlobal>(
     rt: &R,
     c: &mut End,
@@ -181,7 +196,10 @@ fn talk_by_numbers<R: Runtime + AllocGlobal>(
     pass_reversed(rt, c, d, 10, &mut wire)?;
     answer(rt, d, c, &mut wire)?;
     c.post(send(Bytes::copy_from_slice(rt.alloc(), TEXT)?, None))?;
-    pass_reversed(rt, c, d, 10, &mut wire)
+    pass_reversed(rt, c, d, 10, &mut wire)?;
+    d.post_recv(vec![in rt.alloc(); 0; 64]?)?;
+    c.post(send(Bytes::copy_from_slice(rt.alloc(), TEXT)?, None))?;
+    read_rest(rt, c, d, &mut wire)
 }
 
 fn run_in_order<R: Runtime + AllocGlobal>(rt: &R) -> Result<()> {

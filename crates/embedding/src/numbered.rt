@@ -1,10 +1,14 @@
-//! One end of a connection by the endpoint's own calls: for a program that has the octets already, or gets them out of
-//! order, and hands them in with their sequence numbers.
+//! One end of a connection by the endpoint's own calls. It hands in octets with their sequence numbers, as a program does that
+//! has them already, or gets them out of order; and it reads from a socket.
 
-use crate::end::{STREAM, open_endpoint};
+use crate::end::{STREAM, is_for_later, open_endpoint};
 use anyhow::{Result, bail};
-use iw_endpoint::{Emission, Endpoint, MAX_PLACE, Octets, PrivateData, Role, Step};
+use iw_endpoint::{
+    CallRefusal, Delivery, Emission, Endpoint, Intake, MAX_PLACE, Octets, PrivateData, Role,
+    Standing, Step,
+};
 use std::alloc::Global;
+use std::io::Read;
 use std::rt::Runtime;
 
 /// An endpoint with one stream, and the sequence number of the octet that comes next.
@@ -33,7 +37,36 @@ impl NumberedEnd {
     pub(crate) fn post_recv(&mut self, buffer: Vec<u8>) -> Result<()> {
         match self.endpoint.post_recv(STREAM, buffer) {
             Ok(()) => Ok(()),
-            Err((refusal, _)) => bail!("post_recv: {refusal:?}"),
+            Err((refusal, _)) => bail!("post_recv: {refusal}"),
+        }
+    }
+
+    /// Call it when the socket is readable.
+    pub(crate) fn is_readable<R, S>(&mut self, rt: &R, socket: &mut S) -> Result<()>
+    where
+        R: Runtime + AllocGlobal,
+        S: Read,
+    {
+        match self.endpoint.read_from(STREAM, socket) {
+            Ok(Intake::Came(_) | Intake::Full) => self.work(rt),
+            Ok(Intake::End) => self.closed(rt),
+            Err(CallRefusal::Refused(error)) if is_for_later(error.kind()) => Ok(()),
+            Err(refusal) => bail!("read_from: {refusal}"),
+        }
+    }
+
+    fn has_ended(&self) -> bool {
+        matches!(self.endpoint.standing(STREAM), Ok(Standing::Ended))
+    }
+
+    // Hands in octets that came, of which the first has this sequence number.
+    fn deliver(&mut self, number: u32, octets: &[u8]) -> Result<()> {
+        match self.endpoint.deliver(STREAM, number, octets) {
+            Ok(Delivery::Kept) => Ok(()),
+            // A stream that has ended drops what comes. On one that runs the octets would be missing for good.
+            Ok(Delivery::Dropped) if self.has_ended() => Ok(()),
+            Ok(Delivery::Dropped) => bail!("octets came too far ahead"),
+            Err(refusal) => bail!("deliver: {refusal}"),
         }
     }
 
@@ -43,9 +76,7 @@ impl NumberedEnd {
         rt: &R,
         octets: &[u8],
     ) -> Result<()> {
-        if let Err(refusal) = self.endpoint.deliver(STREAM, self.next, octets) {
-            bail!("deliver: {refusal:?}");
-        }
+        self.deliver(self.next, octets)?;
         self.next = number_after(self.next, octets);
         self.work(rt)
     }
@@ -57,10 +88,7 @@ impl NumberedEnd {
         front: &[u8],
         back: &[u8],
     ) -> Result<()> {
-        let number = number_after(self.next, front);
-        if let Err(refusal) = self.endpoint.deliver(STREAM, number, back) {
-            bail!("deliver: {refusal:?}");
-        }
+        self.deliver(number_after(self.next, front), back)?;
         self.work(rt)?;
         self.octets_came(rt, front)?;
         self.next = number_after(self.next, back);
@@ -92,8 +120,16 @@ impl NumberedEnd {
             // After a fault the Terminate is due.
             Ok(Emission::Frame { .. } | Emission::Fetched { .. } | Emission::Fault(_)) => Ok(true),
             Ok(Emission::Nothing) => Ok(false),
-            Err(refusal) => bail!("emit: {refusal:?}"),
+            Err(refusal) => bail!("emit: {refusal}"),
         }
+    }
+
+    /// Call it when the connection closed. All that was posted and is not done is handed back.
+    pub(crate) fn closed<R: Runtime + AllocGlobal>(&mut self, rt: &R) -> Result<()> {
+        if self.endpoint.break_link(STREAM).is_err() {
+            bail!("no such stream");
+        }
+        self.work(rt)
     }
 
     // Works until there is nothing to do.
@@ -118,7 +154,7 @@ impl NumberedEnd {
                 self.tell(rt, step)?;
                 Ok(true)
             }
-            Err(refusal) => bail!("work: {refusal:?}"),
+            Err(refusal) => bail!("work: {refusal}"),
         }
     }
 
@@ -144,7 +180,7 @@ impl NumberedEnd {
     fn accept(&mut self) -> Result<()> {
         match self.endpoint.accept(STREAM, PrivateData::new()) {
             Ok(_) => Ok(()),
-            Err(refusal) => bail!("accept: {refusal:?}"),
+            Err(refusal) => bail!("accept: {refusal}"),
         }
     }
 }

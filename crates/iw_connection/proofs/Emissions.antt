@@ -1,17 +1,19 @@
 -- Frames one after another.
-use Rattle.std.proofs.Common.{◌≡◌, ℕ, ◌+◌, ◌<◌, ◌≤◌, true, false, List, [], ◌++◌, length, Some, Result, Ok, Err, refl, sym, ap, subst, ◌∙◌, add-one, append_assoc, append-nil, arith, inl, inr}
-use Rattle.std.specs.Prelude.{◌⊎◌}
-use Rattle.std.proofs.lemmas.Bool.{true≢false, cases_lt}
+use Rattle.std.proofs.Common.{◌≡◌, ℕ, zero, suc, ◌+◌, ◌<◌, ◌≤◌, true, false, List, [], ◌++◌, length, Option, Some, None, Result, Ok, Err, refl, sym, ap, subst, ◌∙◌, add-one, append_assoc, append-nil, arith, inl, inr}
+use Rattle.std.specs.Prelude.{IsSome}
+use Rattle.std.specs.Result.{result_err}
+use Rattle.std.proofs.lemmas.Bool.{true≢false}
 use borrow.Author.Count.{below_more}
 use Rattle.iw_stream.specs.declared.answer.Emission.{Emission}
+use Rattle.iw_stream.specs.declared.answer.Emission.TheVariants as emissions
 use Rattle.iw_octets.specs.declared.fault.Fault.{Fault}
 use Rattle.iw_memory.specs.Table.{Table}
 use Rattle.iw_reads.specs.declared.response.ResponsePart.{ResponsePart}
-use Rattle.iw_stream.specs.Stream.{StreamState, Due, StartUp, LastWord, Ready, Response, NextPart, NoneDue, due, octets_due, emission_due, frame_fetched, octets_fetched, emission_fetched}
+use Rattle.iw_stream.specs.Stream.{StreamState, Due, StartUp, LastWord, Ready, Response, NextPart, NoneDue, due, octets_due, emission_due, frame_fetched, octets_fetched, emission_fetched, IsNothing}
 use Rattle.iw_endpoint.specs.Endpoint.{EndpointState, stream_at, emission_at, emitted_at, after_emit}
 use Rattle.iw_connection.specs.declared.filling.Filled.{Filled}
 use Rattle.iw_connection.specs.declared.filling.Filled.TheVariants as filled
-use Rattle.iw_connection.specs.Filling.{is_frame, after_emissions, octets_emitted, Emits, Stopped, Ends, Fills}
+use Rattle.iw_connection.specs.Filling.{is_frame, after_emissions, octets_emitted, Emits, Stopped, IsHeld, Ends, FillsTo, Goes}
 
 pub emissions-more : (n : ℕ) (e : EndpointState) (number : ℕ) → after_emissions (n + 1) e number ≡ after_emit (after_emissions n e number) number
 unfolding after_emissions
@@ -36,9 +38,6 @@ one_emitted old now new number n before out after s frame put left =
       left = left ∙ ap (λ e. after_emit e number) s.left ∙ sym (emissions-more n old number);
     }
 
-pub few_more : (n count most : ℕ) → (0 < n → count ≤ most) → (count ≤ most) ⊎ (n + 1 ≡ 1)
-few_more n count most few = elim (cases_lt 0 n) [ inl some ↦ inl (few some) | inr none ↦ inr (omega (arith, none)) ]
-
 -- ---- what is no frame has no octets
 none_fetched : (s : StreamState) (part : ResponsePart) (r : Result (List ℕ) Fault) → is_frame (emission_fetched s part r) ≡ false → octets_fetched r ≡ []
 none_fetched s part (Ok frame) e = absurd (true≢false e)
@@ -60,19 +59,82 @@ no_frame emission filled.More stop = absurd stop
 no_frame emission filled.All stop = ap is_frame stop
 no_frame emission (filled.Fault fault) stop = ap is_frame stop
 
-ends_there : (at new : EndpointState) (number : ℕ) (f : Filled) → Stopped (emission_at at number) (Some f) → new ≡ after_emit at number → Ends at number new f
-ends_there at new number filled.More stop left = absurd stop
-ends_there at new number filled.All stop left = (stop, left)
-ends_there at new number (filled.Fault fault) stop left = (stop, left)
+-- what is emitted where it stops, which is no octet
+pub stopped_out : (at : EndpointState) (number : ℕ) (f : Filled) (out after : List ℕ) → Stopped (emission_at at number) (Some f) → after ≡ out ++ emitted_at at number → after ≡ out
+stopped_out at number f out after stop put = put ∙ ap (λ xs. out ++ xs) (no_octets at number (no_frame (emission_at at number) f stop)) ∙ append-nil out
 
-pub fills : (old at new : EndpointState) (number most n count : ℕ) (before out after : List ℕ) (f : Filled) → Emits old number n before out at → length out ≡ length before + count → (count ≤ most) ⊎ (n ≡ 1)
-    → Stopped (emission_at at number) (Some f) → after ≡ out ++ emitted_at at number → new ≡ after_emit at number → Fills old number most before after new f
-fills old at new number most n count before out after f s sum few stop put left =
-    let same : after ≡ out = put ∙ ap (λ xs. out ++ xs) (no_octets at number (no_frame (emission_at at number) f stop)) ∙ append-nil out in
+ends_there : (at new : EndpointState) (number : ℕ) (held : Type 0) (f : Filled) → Stopped (emission_at at number) (Some f) → new ≡ after_emit at number → Ends at number new held f
+ends_there at new number held filled.More stop left = absurd stop
+ends_there at new number held filled.All stop left = (stop, left)
+ends_there at new number held (filled.Fault fault) stop left = (stop, left)
+
+-- nothing is emitted but what stops it
+pub fills_none : (old new : EndpointState) (number most capacity : ℕ) (before after : List ℕ) (f : Filled) → Stopped (emission_at old number) (Some f) → after ≡ before ++ emitted_at old number
+    → new ≡ after_emit old number → FillsTo old number most before after capacity new 0 f
+fills_none old new number most capacity before after f stop put left =
+    let same : after ≡ before = stopped_out old number f before after stop put in
     record {
-      n = n;
-      at = at;
-      emits = subst (λ xs. Emits old number n before xs at) (sym same) s;
-      ends = ends_there at new number f stop left;
-      few = elim few [ inl less ↦ inl (omega (arith, less, sum, ap length same)) | inr one ↦ inr one ];
+      at = old;
+      emits = subst (λ xs. Emits old number 0 before xs old) (sym same) (none_emitted old number before);
+      ends = ends_there old new number _ f stop left;
+      few = inl (omega (arith, ap length same));
     }
+
+-- n frames were emitted, and the next is held back, or nothing is due, or it is a fault
+pub fills : (old at new : EndpointState) (number most n rest capacity : ℕ) (before out after : List ℕ) (f : Filled) → Emits old number n before out at → 0 < n → length out + rest ≡ length before + most
+    → Goes at number rest out after capacity new (Some f) → FillsTo old number most before after capacity new n f
+fills old at new number most n rest capacity before out after filled.More s some sum goes = record {
+  at = at;
+  emits = subst (λ xs. Emits old number n before xs at) (sym goes.0) s;
+  ends = (goes.1, (some, subst (λ k. IsHeld at number k (length after) capacity) sum (subst (λ (xs : List ℕ). IsHeld at number (length out + rest) (length xs) capacity) (sym goes.0) goes.2)));
+  few = inl (omega (arith, sum, ap length goes.0));
+}
+fills old at new number most n rest capacity before out after filled.All s some sum goes = record {
+  at = at;
+  emits = subst (λ xs. Emits old number n before xs at) (sym goes.1) s;
+  ends = (goes.0, goes.2);
+  few = inl (omega (arith, sum, ap length goes.1));
+}
+fills old at new number most n rest capacity before out after (filled.Fault fault) s some sum goes = record {
+  at = at;
+  emits = subst (λ xs. Emits old number n before xs at) (sym goes.1) s;
+  ends = (goes.0, goes.2);
+  few = inl (omega (arith, sum, ap length goes.1));
+}
+
+-- the first frame is longer than what was asked for
+pub fills_long : (old at : EndpointState) (number most n capacity : ℕ) (before out : List ℕ) → Emits old number n before out at → n ≡ 1 → length before + most < length out
+    → FillsTo old number most before out capacity at n filled.More
+fills_long old at number most n capacity before out s one long = record {
+  at = at;
+  emits = s;
+  ends = (refl, (omega (arith, one), inl (omega arith)));
+  few = inr one;
+}
+
+-- what is no value is a refusal
+pub err_is : {T E : Type 0} (r : Result T E) → ((x : T) → r ≡ Ok x → ⊥) → IsSome (result_err r)
+err_is (Ok x) other = absurd (other x refl)
+err_is (Err e) other = refl
+
+pub none_is : {T : Type 0} (o : Option T) → ((x : T) → o ≡ Some x → ⊥) → o ≡ None
+none_is None other = refl
+none_is (Some x) other = absurd (other x refl)
+
+-- where one is emitted, or it stops
+pub goes_on : (at new : EndpointState) (number rest capacity : ℕ) (out after : List ℕ) (o : Option Filled) → Stopped (emission_at at number) o → after ≡ out ++ emitted_at at number → new ≡ after_emit at number
+    → (length (emitted_at at number) ≡ 0 → IsNothing (emission_at at number)) → length (emitted_at at number) ≤ rest → Goes at number rest out after capacity new o
+goes_on at new number rest capacity out after None stop put left some few = (stop, some_octets (length (emitted_at at number)) refl, few, put, left)
+  where
+    refuted : (emission : Emission) → is_frame emission ≡ true → IsNothing emission → ⊥
+    refuted (emissions.Frame from len) e nothing = nothing
+    refuted (emissions.Fetched from len stag to n) e nothing = nothing
+    refuted (emissions.Fault fault) e nothing = true≢false (sym e)
+    refuted emissions.Nothing e nothing = true≢false (sym e)
+
+    some_octets : (n : ℕ) → length (emitted_at at number) ≡ n → 0 < length (emitted_at at number)
+    some_octets zero e = absurd (refuted (emission_at at number) stop (some e))
+    some_octets (suc n) e = omega (arith, e)
+goes_on at new number rest capacity out after (Some filled.More) stop put left some few = absurd stop
+goes_on at new number rest capacity out after (Some filled.All) stop put left some few = (stop, stopped_out at number filled.All out after stop put, left)
+goes_on at new number rest capacity out after (Some (filled.Fault fault)) stop put left some few = (stop, stopped_out at number (filled.Fault fault) out after stop put, left)

@@ -5,12 +5,12 @@
 //! 1. when the connection is readable, calls [`take`], which reads once, right to where the octets are to stand, and then
 //!    [`next`] until it answers [`Step::Idle`]. Each other answer is a step that the application has to act on: it accepts
 //!    or rejects the peer's Request, uses a message that was received, or takes note of what is done or has ended;
-//! 2. when the connection is writable, calls [`fill`] until it answers [`Filled::All`], writes out what was appended, and
-//!    then calls [`next`] in the same way: messages may be done;
+//! 2. when the connection is writable, calls [`fill`], writes out what was appended, keeps what the connection did not take,
+//!    and then calls [`next`] in the same way: messages may be done. So it goes on until [`fill`] answers [`Filled::All`];
 //! 3. when the connection has ended, or a read or write failed, calls [`close`], and then [`next`] in the same way: what
 //!    was posted is handed back.
 //!
-//! It counts no octets. A read that would block ends nothing: it is told as an error of its kind.
+//! The application counts no octets. If a read would block, [`take`] answers an error of that kind, and the stream goes on.
 //!
 //! After a fault ([`Step::Fault`], [`Filled::Fault`]) the application writes the Terminate that [`fill`] appends, and goes
 //! on reading, by [`take`], until [`Intake::End`]. Only then it closes the socket: closing one that has unread octets makes
@@ -32,7 +32,7 @@
 //!         Ok(Intake::Came(_) | Intake::Full) => self.act(rt),
 //!         Ok(Intake::End) => self.closed(rt),
 //!         Err(CallRefusal::Refused(error)) if is_for_later(error.kind()) => Ok(()),
-//!         Err(refusal) => bail!("take: {refusal:?}"),
+//!         Err(refusal) => bail!("take: {refusal}"),
 //!     }
 //! }
 //!
@@ -42,12 +42,21 @@
 //!     R: Runtime + AllocGlobal,
 //!     S: Write,
 //! {
-//!     self.out.clear();
-//!     let filled = fill(&mut self.endpoint, STREAM, &mut self.out, MOST_WRITTEN)?;
-//!     socket.write_all(self.out.as_slice())?;
+//!     // What the socket did not take the last time is written first.
+//!     let filled = if self.out.is_empty() {
+//!         fill(&mut self.endpoint, STREAM, &mut self.out, MOST_WRITTEN)?
+//!     } else {
+//!         Filled::More
+//!     };
+//!     let any = filled != Filled::All || !self.out.is_empty();
+//!     match socket.write(self.out.as_slice()) {
+//!         Ok(taken) => drop(self.out.drain(..taken)),
+//!         Err(error) if is_for_later(error.kind()) => {}
+//!         Err(error) => return Err(error.into()),
+//!     }
 //!     // What was posted may be done now.
 //!     self.act(rt)?;
-//!     Ok(filled != Filled::All || !self.out.is_empty())
+//!     Ok(any)
 //! }
 //!
 //! /// Call it when the connection closed. All that was posted and is not done is handed back.
@@ -76,7 +85,7 @@ mod filling;
 mod taking;
 mod working;
 
-pub use filling::{Filled, fill};
+pub use filling::{Filled, fill, fill_frames};
 pub use iw_endpoint::{CallRefusal, Endpoint, Intake, Octets, Step};
 pub use taking::{close, take};
 pub use working::{Refusal, is_progress, next};

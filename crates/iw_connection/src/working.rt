@@ -1,7 +1,7 @@
-ghost use Rattle.std.specs.Prelude.{◌≡◌, ◌↔◌, false, Ok, Err, IfOk, OnOk, OnErr};
+ghost use Rattle.std.specs.Prelude.{◌≡◌, Ok, Err, IfOk, IfErr, IfSome, IfNone, OnOk, OnErr};
 ghost use Rattle.iw_stream.specs.Kept.{IsWithinBuffer};
-ghost use Rattle.iw_endpoint.specs.Endpoint.{has_stream, step_at, after_work};
-ghost use Rattle.iw_connection.specs.Steps.{is_progress, GoesTo, Stops};
+ghost use Rattle.iw_endpoint.specs.Endpoint.{step_at, after_work};
+ghost use Rattle.iw_connection.specs.Steps.{is_progress, work_refusal, TriesAt, GoesTo, Stops, StopsFor};
 
 use crate::StreamNumber;
 use iw_endpoint::{CallRefusal, Endpoint, MAX_PLACE, Octets, Step};
@@ -50,7 +50,8 @@ fn step<A: Allocator>(
     endpoint: &mut Endpoint<A>,
     number: StreamNumber,
 ) -> Result<Step<Octets<A>>, Refusal>
-    ensures stream { (result ≡ Err Refusal.NoSuchStream) ↔ (has_stream endpoint.old number ≡ false) }
+    ensures refused { IfSome (work_refusal endpoint.old number) (λ refusal. result ≡ Err refusal) }
+    ensures memory { IfNone (work_refusal endpoint.old number) (IfErr result (λ e. (e ≡ Refusal.NoMemory) × TriesAt endpoint.old number)) }
     ensures step { IfOk result (λ step. Ok step ≡ step_at endpoint.old number) }
     ensures ok { OnOk result (endpoint.new ≡ after_work endpoint.old number) }
     ensures within { IfOk result IsWithinBuffer }
@@ -73,8 +74,9 @@ fn step<A: Allocator>(
 /// do. The steps that it leaves out only tell how far the stream has come: `Placed`, `Buffered`, `Requested`, `Tried` and
 /// `Passed`.
 ///
-/// An `Err` leaves the steps that were done before it, none of which has to be acted on. `NoMemory` comes only when a
-/// frame is judged before its turn; `TooFar` if the in-order point is past 2^62.
+/// An `Err` leaves the steps that were done before it, none of which has to be acted on. The first that applies then is told:
+/// `NoSuchStream`; `TooFar`, if the in-order point is past 2^62 (or after 2^64 - 1 steps); `NoMemory`, which comes only when a
+/// frame is judged before its turn.
 pub fn next<A: Allocator>(
     endpoint: &mut Endpoint<A>,
     number: StreamNumber,
@@ -82,8 +84,9 @@ pub fn next<A: Allocator>(
     ensures ok { IfOk result (λ step. GoesTo endpoint.old number step endpoint.new) }
     ensures within { IfOk result IsWithinBuffer }
     ensures err { OnErr result (Stops endpoint.old number endpoint.new) }
+    ensures why { IfErr result (λ refusal. StopsFor endpoint.old number endpoint.new refusal) }
 {
-    'steps: for _ in 0..u64::MAX {
+    'steps: for n in 0..u64::MAX {
         match step(endpoint, number) {
             Ok(step) if is_progress(&step) => {}
             Ok(step) => return Ok(step),

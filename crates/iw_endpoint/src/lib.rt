@@ -49,7 +49,7 @@
 //! ```text
 //! let mut endpoint = Endpoint::new(alloc);
 //! if let Err(refusal) = endpoint.add_domain(DOMAIN) {
-//!     bail!("add_domain: {refusal:?}");
+//!     bail!("add_domain: {refusal}");
 //! }
 //! let config = Config {
 //!     markers: true,
@@ -58,7 +58,7 @@
 //!     private: PrivateData::new(),
 //! };
 //! if let Err(refusal) = endpoint.open(STREAM, DOMAIN, role, config) {
-//!     bail!("open: {refusal:?}");
+//!     bail!("open: {refusal}");
 //! }
 //!
 //! pub(crate) fn is_readable<R, S>(&mut self, rt: &R, socket: &mut S) -> Result<()>
@@ -70,7 +70,7 @@
 //!         Ok(Intake::Came(_) | Intake::Full) => self.work(rt),
 //!         Ok(Intake::End) => self.closed(rt),
 //!         Err(CallRefusal::Refused(error)) if is_for_later(error.kind()) => Ok(()),
-//!         Err(refusal) => bail!("read_from: {refusal:?}"),
+//!         Err(refusal) => bail!("read_from: {refusal}"),
 //!     }
 //! }
 //!
@@ -81,7 +81,7 @@
 //!         // A stream that has ended drops what comes. On one that runs the octets would be missing for good.
 //!         Ok(Delivery::Dropped) if self.has_ended() => Ok(()),
 //!         Ok(Delivery::Dropped) => bail!("octets came too far ahead"),
-//!         Err(refusal) => bail!("deliver: {refusal:?}"),
+//!         Err(refusal) => bail!("deliver: {refusal}"),
 //!     }
 //! }
 //!
@@ -95,7 +95,7 @@
 //!         // After a fault the Terminate is due.
 //!         Ok(Emission::Frame { .. } | Emission::Fetched { .. } | Emission::Fault(_)) => Ok(true),
 //!         Ok(Emission::Nothing) => Ok(false),
-//!         Err(refusal) => bail!("emit: {refusal:?}"),
+//!         Err(refusal) => bail!("emit: {refusal}"),
 //!     }
 //! }
 //! ```

@@ -12,7 +12,7 @@ use Rattle.iw_connection.specs.declared.filling.Filled.{Filled}
 use Rattle.iw_connection.specs.declared.filling.Filled.TheVariants as filled
 use Rattle.iw_connection.specs.Steps.{is_progress, progresses, after_steps, GoesTo, Stops}
 use Rattle.iw_connection.specs.Filling as filling
-use Rattle.iw_connection.specs.Filling.{is_frame, after_emissions, octets_emitted, Ends, Fills}
+use Rattle.iw_connection.specs.Filling.{is_frame, after_emissions, octets_emitted, Ends, Fills, FillsTo}
 use Rattle.iw_connection.proofs.Emissions.{no_octets}
 use Rattle.iw_links.specs.Exchange.{Plan, Phase, Listening, Working, Speaking, after_step, after_emission, Told, told_by, told_of, Did, Emits}
 use Rattle.iw_links.proofs.Exchanges.{at, both, emits, emits_nothing, emits_on, stays, works}
@@ -99,18 +99,23 @@ module _ (p : Plan) (t : Told) (k : ℕ) where
   pub frames_went : (e new : EndpointState) (n : ℕ) (out out' : List ℕ) → filling.Emits e p.number n out out' new → Emits p (at e t Speaking k) (at new t Speaking k) out out'
   frames_went e new n out out' s = rw (s.left, s.octets) (frames_done e n out s.frames)
 
-  filled_to : (e new : EndpointState) (most : ℕ) (out out' : List ℕ) (f : Filled) → (s : Fills e p.number most out out' new f) → (emission : Emission) → emission ≡ emission_at s.at p.number → is_frame emission ≡ false
-      → new ≡ after_emit s.at p.number → (t' : Told) (phase : Phase) → t' ≡ told_of t emission → phase ≡ after_emission emission → Emits p (at e t Speaking k) (at new t' phase k) out out'
-  filled_to e new most out out' f s emission is none left t' phase tells goes =
+  -- nothing was emitted
+  pub nothing_went : (e new : EndpointState) (out out' : List ℕ) → new ≡ e → out' ≡ out → Emits p (at e t Speaking k) (at new t Speaking k) out out'
+  nothing_went e new out out' same none = rw (same, none) (emits_nothing p (at e t Speaking k) out)
+
+  filled_to : (e new : EndpointState) (most capacity n : ℕ) (out out' : List ℕ) (f : Filled) → (s : FillsTo e p.number most out out' capacity new n f) → (emission : Emission) → emission ≡ emission_at s.at p.number
+      → is_frame emission ≡ false → new ≡ after_emit s.at p.number → (t' : Told) (phase : Phase) → t' ≡ told_of t emission → phase ≡ after_emission emission → Emits p (at e t Speaking k) (at new t' phase k) out out'
+  filled_to e new most capacity n out out' f s emission is none left t' phase tells goes =
       let grows : out' ≡ out' ++ emitted_at s.at p.number = sym (append-nil out') ∙ ap (λ xs. out' ++ xs) (sym (no_octets s.at p.number (sym (ap is_frame is) ∙ none))) in
-      emits_on p _ _ _ out out' out' (frames_went e s.at s.n out out' s.emits) (emits p s.at new t t' k phase emission out' out' is grows left tells goes)
+      emits_on p _ _ _ out out' out' (frames_went e s.at n out out' s.emits) (emits p s.at new t t' k phase emission out' out' is grows left tells goes)
 
-  pub filled_all : (e new : EndpointState) (most : ℕ) (out out' : List ℕ) → Fills e p.number most out out' new filled.All → Emits p (at e t Speaking k) (at new t Listening k) out out'
-  filled_all e new most out out' s = filled_to e new most out out' filled.All s emissions.Nothing (sym s.ends.0) refl s.ends.1 t Listening refl refl
+  pub filled_all : (e new : EndpointState) (most capacity : ℕ) (out out' : List ℕ) → Fills e p.number most out out' capacity new filled.All → Emits p (at e t Speaking k) (at new t Listening k) out out'
+  filled_all e new most capacity out out' s = filled_to e new most capacity s.0 out out' filled.All s.1 emissions.Nothing (sym s.1.ends.0) refl s.1.ends.1 t Listening refl refl
 
-  pub filled_more : (e new : EndpointState) (most : ℕ) (out out' : List ℕ) → Fills e p.number most out out' new filled.More → Emits p (at e t Speaking k) (at new t Speaking k) out out'
-  filled_more e new most out out' s = rw s.ends (frames_went e s.at s.n out out' s.emits)
+  pub filled_more : (e new : EndpointState) (most capacity : ℕ) (out out' : List ℕ) → Fills e p.number most out out' capacity new filled.More → Emits p (at e t Speaking k) (at new t Speaking k) out out'
+  filled_more e new most capacity out out' s = rw (s.1.ends.0) (frames_went e s.1.at s.0 out out' s.1.emits)
 
-  pub filled_fault : (e new : EndpointState) (most : ℕ) (out out' : List ℕ) (fault : Fault) (t' : Told) → Fills e p.number most out out' new (filled.Fault fault) → t' ≡ told_of t (emissions.Fault fault)
+  pub filled_fault : (e new : EndpointState) (most capacity : ℕ) (out out' : List ℕ) (fault : Fault) (t' : Told) → Fills e p.number most out out' capacity new (filled.Fault fault) → t' ≡ told_of t (emissions.Fault fault)
       → Emits p (at e t Speaking k) (at new t' Speaking k) out out'
-  filled_fault e new most out out' fault t' s tells = filled_to e new most out out' (filled.Fault fault) s (emissions.Fault fault) (sym s.ends.0) refl s.ends.1 t' Speaking tells refl
+  filled_fault e new most capacity out out' fault t' s tells =
+      filled_to e new most capacity s.0 out out' (filled.Fault fault) s.1 (emissions.Fault fault) (sym s.1.ends.0) refl s.1.ends.1 t' Speaking tells refl

@@ -1,0 +1,13 @@
+use Rattle.std.proofs.Common.{◌≡◌, ◌+◌, ◌<◌, ◌≤◌, length}
+use Rattle.std.specs.Prelude.{◌⊎◌}
+use Rattle.iw_connection.specs.Filling.{Emits}
+use Rattle.iw_connection.proofs.filling.fill_frames.Given as goal
+
+abbrev pub invariant-frames : goal.invariant-frames
+invariant-frames g l = record {
+  emits : Emits l.fn.endpoint l.number l.n l.fn.out.items l.out.items l.endpoint;
+  some : 0 < l.n;
+  begun : l.begun ≡ length l.fn.out.items;
+  long : l.begun + l.n ≤ length l.out.items + 1;
+  few : (length l.out.items ≤ l.begun + l.most) ⊎ (l.n ≡ 1);
+}
