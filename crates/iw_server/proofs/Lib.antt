@@ -1,0 +1,3 @@
+mod Left
+mod Stepping
+mod Swept

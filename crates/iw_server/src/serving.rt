@@ -1,0 +1,111 @@
+ghost use Rattle.std.specs.Prelude.{◌≡◌, ◌≤◌, IfOk};
+
+use crate::host::{Host, Socket};
+use crate::server::Server;
+use crate::terms::Terms;
+use std::alloc::Global;
+use std::io::Write;
+use thiserror::Error;
+
+/// How many keys [`Host::wait`] may have to tell at once.
+pub const MOST_READY: usize = 1_024;
+
+/// Why a server stops before its connections are over.
+#[derive(Clone, Copy, Debug, PartialEq, Eq, Error)]
+pub enum ServeFault {
+    /// The host could not wait, or has no clock.
+    #[error("the host failed")]
+    Host,
+    /// The output failed.
+    #[error("the output failed")]
+    Output,
+    /// Out of memory, before the first connection.
+    #[error("no memory")]
+    NoMemory,
+}
+
+/// How many connections there were.
+#[derive(Clone, Copy, Debug, PartialEq, Eq)]
+pub struct Tally {
+    /// How many were begun.
+    pub begun: u64,
+    /// How many of them failed: no Send came, the stream ended by a fault, the socket failed, or there was no room.
+    pub failed: u64,
+}
+
+/// Serves so many connections, as many at once as there are, and prints a line for each Send that came and for each fault that ended a
+/// stream. It returns once they are over.
+pub fn serve<S: Socket + Drop, H: Host<S>, W: Write>(
+    alloc: Global,
+    terms: Terms,
+    count: u64,
+    host: &mut H,
+    print: &mut W,
+) -> Result<Tally, ServeFault>
+    ensures begun { IfOk result (λ tally. tally.begun ≡ count) }
+    ensures failed { IfOk result (λ tally. tally.failed ≤ tally.begun) }
+{
+    let Ok(mut ready) = Vec::with_capacity(alloc, MOST_READY) else {
+        return Err(ServeFault::NoMemory);
+    };
+    let mut server = Server::new(alloc, terms);
+    serve_all(&mut server, count, host, &mut ready, print)
+}
+
+// The rounds, until so many connections were begun and are over.
+fn serve_all<S: Socket + Drop, H: Host<S>, W: Write>(
+    server: &mut Server<S>,
+    count: u64,
+    host: &mut H,
+    ready: &mut Vec<usize>,
+    print: &mut W,
+) -> Result<Tally, ServeFault>
+    requires { server.old.begun ≤ count }
+    ensures begun { IfOk result (λ tally. tally.begun ≡ count) }
+    ensures failed { IfOk result (λ tally. tally.failed ≤ tally.begun) }
+{
+    let mut seconds = 1;
+    'rounds: for _ in 0..u64::MAX {
+        if server.begun >= count && server.live() == 0 {
+            return Ok(Tally {
+                begun: server.begun,
+                failed: server.failed,
+            });
+        }
+        match serve_round(server, count, host, ready, seconds, print) {
+            Ok(more) => seconds = if more { 0 } else { 1 },
+            Err(fault) => return Err(fault),
+        }
+    }
+    Err(ServeFault::Host)
+}
+
+// Waits, gives each connection that is ready a turn, accepts others, and drops those that are silent. Returns whether more may be
+// accepted.
+fn serve_round<S: Socket + Drop, H: Host<S>, W: Write>(
+    server: &mut Server<S>,
+    count: u64,
+    host: &mut H,
+    ready: &mut Vec<usize>,
+    seconds: u64,
+    print: &mut W,
+) -> Result<bool, ServeFault>
+    requires { server.old.begun ≤ count }
+    ensures { server.new.begun ≤ count }
+{
+    if host.wait(ready, seconds).is_err() {
+        return Err(ServeFault::Host);
+    }
+    let Ok(now) = host.now() else {
+        return Err(ServeFault::Host);
+    };
+    'turns: for key in ready.iter() {
+        server.take_turn(host, *key, now);
+    }
+    let more = server.take_in(host, count, now);
+    server.drop_silent(now);
+    match server.print(print) {
+        Ok(()) => Ok(more),
+        Err(_) => Err(ServeFault::Output),
+    }
+}

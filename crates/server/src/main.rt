@@ -1,0 +1,64 @@
+//! A server of many connections over TCP: `server COUNT [OPTIONS [PORT]]`.
+#![tactic(auto)]
+
+use iw_server::{Request, ServeFault, Sockets, Terms, USAGE, request_of, serve};
+use std::env;
+use std::io::{self, ErrorKind};
+use std::net::Net;
+use std::process::ExitCode;
+use std::rt::Runtime;
+
+// The words behind the program's name.
+fn words<R: Runtime + AllocGlobal>(rt: &R) -> io::Result<Vec<String>> {
+    let mut words = Vec::new(rt.alloc());
+    for word in env::args(rt)?.skip(1) {
+        words.push(word)?;
+    }
+    Ok(words)
+}
+
+// Serves so many connections at a port, and returns the exit status.
+fn listen<R: Runtime + AllocGlobal + Net>(
+    rt: &R,
+    count: u64,
+    terms: Terms,
+    port: u16,
+) -> io::Result<u8> {
+    let mut sockets = Sockets::bind(rt.alloc(), rt, rt, port)?;
+    let bound = sockets.port()?;
+    println!(rt; "port {bound}")?;
+    let count = if count == 0 { u64::MAX } else { count };
+    match serve(rt.alloc(), terms, count, &mut sockets, &mut io::writer(rt)) {
+        Ok(tally) => Ok(if tally.failed == 0 { 0 } else { 1 }),
+        Err(fault) => {
+            eprintln!(rt; "server: {fault}")?;
+            Ok(if fault == ServeFault::NoMemory { 2 } else { 1 })
+        }
+    }
+}
+
+fn run<R: Runtime + AllocGlobal + Net>(rt: &R) -> io::Result<u8> {
+    let words = words(rt)?;
+    match request_of(&words) {
+        Some(Request::Help) => {
+            print!(rt; "{USAGE}")?;
+            Ok(0)
+        }
+        Some(Request::Serve { count, terms, port }) => listen(rt, count, terms, port),
+        None => {
+            eprint!(rt; "{USAGE}")?;
+            Ok(2)
+        }
+    }
+}
+
+fn main(rt: HostRuntime) -> ExitCode {
+    match run(&rt) {
+        Ok(status) => ExitCode::from(status),
+        Err(error) => {
+            let _ = eprintln!(rt; "server: {error}");
+            let is_full = error.kind() == ErrorKind::OutOfMemory;
+            ExitCode::from(if is_full { 2 } else { 1 })
+        }
+    }
+}
