@@ -80,7 +80,7 @@ use Rattle.iw_laws.proofs.Reached.{reaches}
 
 -- ---- frames that were written
 
-all_short : (segments : List (Segment Octets)) → Each IsSendable segments → All (λ u. length u ≤ max_sent) (map segment_octets segments)
+pub all_short : (segments : List (Segment Octets)) → Each IsSendable segments → All (λ u. length u ≤ max_sent) (map segment_octets segments)
 all_short [] h = λ k d lt. absurd (omega (arith, lt))
 all_short (x ∷ xs) h = All-cons (λ u. length u ≤ max_sent) (segment_octets x) (map segment_octets xs) h.0.small (all_short xs h.1)
 
@@ -113,7 +113,7 @@ again (Tagged head payload) h = go (nat_eq (opcode_of head.control) 2) refl
     go false e = read_segment-spelled (Tagged head payload) (h.fits e)
     go true e = read_tagged_again head payload h.version
 
-read_again : (segments : List (Segment Octets)) → Each IsSendable segments → map segment_in (map intact (map segment_octets segments)) ≡ map Some (map reread segments)
+pub read_again : (segments : List (Segment Octets)) → Each IsSendable segments → map segment_in (map intact (map segment_octets segments)) ≡ map Some (map reread segments)
 read_again [] h = refl
 read_again (x ∷ xs) h = λ i. again x h.0 i ∷ read_again xs h.1 i
 
@@ -233,7 +233,7 @@ stag_again stag fits =
     let key : (stag_of (number_of stag)).key ≡ stag.key = omega (arith, fits.domain, fits.slot, fits.key) in
     λ i. record { domain = domain i; slot = slot i; key = key i }
 
-sends_whole : (ms : List (Request Octets)) → Each FitsPosted ms → map told (sends ms) ≡ words.sends ms
+pub sends_whole : (ms : List (Request Octets)) → Each FitsPosted ms → map told (sends ms) ≡ words.sends ms
 sends_whole [] h = refl
 sends_whole (Posted (Write stag to octets) ∷ ms) h = sends_whole ms h.1
 sends_whole (Read request ∷ ms) h = sends_whole ms h.1
@@ -255,7 +255,7 @@ pub plain : List (Segment Octets) → List (Segment Octets)
 plain [] = []
 plain (s ∷ ss) = cond (is_extra s) (plain ss) (s ∷ plain ss)
 
-plain-append : (xs ys : List (Segment Octets)) → plain (xs ++ ys) ≡ plain xs ++ plain ys
+pub plain-append : (xs ys : List (Segment Octets)) → plain (xs ++ ys) ≡ plain xs ++ plain ys
 unfolding plain
 plain-append [] ys = refl
 plain-append (x ∷ xs) ys = go (is_extra x) (plain-append xs ys)
@@ -264,7 +264,7 @@ plain-append (x ∷ xs) ys = go (is_extra x) (plain-append xs ys)
     go true e = e
     go false e = ap (λ z. x ∷ z) e
 
-joined-plain : (sofar : List ℕ) (ss : List (Segment Octets)) → joined sofar (plain ss) ≡ joined sofar ss
+pub joined-plain : (sofar : List ℕ) (ss : List (Segment Octets)) → joined sofar (plain ss) ≡ joined sofar ss
 unfolding plain
 joined-plain sofar [] = refl
 joined-plain sofar (Tagged head payload ∷ ss) = go (nat_eq (opcode_of head.control) 2) (joined-plain sofar ss)
@@ -287,7 +287,7 @@ joined-plain sofar (Untagged head payload ∷ ss) = by (λ z. joined-plain z ss)
         let other : nat_eq head.queue 0 ≡ false = grind (arith, nat_tests) in
         same sofar ∙ ap (λ mine. cond mine (cond head.last (completed head (sofar ++ payload) ∷ joined [] ss) (joined (sofar ++ payload) ss)) (joined sofar ss)) (sym other)
 
-count-plain : (c : Cell) (ss : List (Segment Octets)) → count_segments c (plain ss) ≡ count_segments c ss
+pub count-plain : (c : Cell) (ss : List (Segment Octets)) → count_segments c (plain ss) ≡ count_segments c ss
 unfolding plain
 count-plain c [] = refl
 count-plain c (Tagged head payload ∷ ss) = go (nat_eq (opcode_of head.control) 2) refl (count-plain c ss)
@@ -343,7 +343,7 @@ nothing_in c stag to = go (eqb (number_of stag) c.stag)
     go true = refl
     go false = refl
 
-ready_sends : (start : StartState) (ms : List (Request Octets)) → sends (ready_in start ++ ms) ≡ sends ms
+pub ready_sends : (start : StartState) (ms : List (Request Octets)) → sends (ready_in start ++ ms) ≡ sends ms
 ready_sends start ms = go (rtr_in start)
   where
     go : (o : Option Rtr) → sends (listed (option_map rtr_message o) ++ ms) ≡ sends ms
@@ -351,7 +351,7 @@ ready_sends start ms = go (rtr_in start)
     go (Some rtrs.Write) = refl
     go (Some rtrs.Read) = refl
 
-ready_writes : (c : Cell) (start : StartState) (ms : List (Request Octets)) → count_writes c (ready_in start ++ ms) ≡ count_writes c ms
+pub ready_writes : (c : Cell) (start : StartState) (ms : List (Request Octets)) → count_writes c (ready_in start ++ ms) ≡ count_writes c ms
 ready_writes c start ms = go (rtr_in start)
   where
     go : (o : Option Rtr) → count_writes c (listed (option_map rtr_message o) ++ ms) ≡ count_writes c ms
@@ -405,7 +405,7 @@ plain-farewells None = refl
 plain-farewells (Some payload) = refl
 
 -- the same, as it is read again
-plain-reread : (ss : List (Segment Octets)) → plain (map reread ss) ≡ plain ss
+pub plain-reread : (ss : List (Segment Octets)) → plain (map reread ss) ≡ plain ss
 unfolding plain reread
 plain-reread [] = refl
 plain-reread (Untagged head payload ∷ ss) = ap (λ z. cond (nat_eq head.queue 2) z (Untagged head payload ∷ z)) (plain-reread ss)
@@ -462,7 +462,7 @@ numbered_plain ss later k a b head payload is queue =
     (w.0 ∙ ap (λ z. (1 + length z) % 2 ^ 32) (joined-plain [] a), w.1 ∙ ap length (begun-plain [] a))
 
 -- what was received are the Sends that the segments complete
-received_are : (c : Connected) (t : Tale) (d : Connected) (u : Tale) (e : Emits c.stream t) (k : Track d.stream u) → IsHeard c t d u (out_of c.stream t e) k → IsOf u.story.came t.sent → Fills d.stream u → u.received ≡ map told (joined [] k.segments)
+pub received_are : (c : Connected) (t : Tale) (d : Connected) (u : Tale) (e : Emits c.stream t) (k : Track d.stream u) → IsHeard c t d u (out_of c.stream t e) k → IsOf u.story.came t.sent → Fills d.stream u → u.received ≡ map told (joined [] k.segments)
 received_are c t d u e k (Bare bare none) of fills =
     let firsts : k.segments ≡ [] = no_segments k.segments (sym k.carried ∙ ap (map segment_in) bare.frames) in
     nothing u.received (omega (arith, k.joins.completed_are, ap (λ z. length (joined [] z)) firsts)) ∙ ap (λ z. map told (joined [] z)) (sym firsts)

@@ -326,21 +326,29 @@ initiator_not o e f = let same : Initiator ≡ Preset = sym e ∙ f in cc
 responder_not : (o : Opening) → o.role ≡ Responder → o.role ≡ Preset → ⊥
 responder_not o e f = let same : Responder ≡ Preset = sym e ∙ f in cc
 
--- what an honest end hears of the other
-pub hears_all : (a : Opening) (c : Connected) (t : Tale) (own : Own a c t) (b : Opening) (d : Connected) (u : Tale) (other : Own b d u) → Fits a b → IsOf u.story.came t.sent → IsOf t.story.came u.sent
-    → IsHeard c t d u (out_of c.stream t own.emits) other.track
-hears_all a c t own b d u other fits there back = go (is_open d.stream.start) refl fits
+-- behind the start-up frame that an honest end has read stand the frames that the other has sent, where its stream is open
+pub clears : (a : Opening) (c : Connected) (t : Tale) (own : Own a c t) (b : Opening) (d : Connected) (u : Tale) (other : Own b d u) → Fits a b → IsOf u.story.came t.sent → IsOf t.story.came u.sent → is_open d.stream.start ≡ true
+    → t.sent ≡ other.track.intro ++ sequence (expecting d.stream.start) 0 (map segment_octets (out_of c.stream t own.emits))
+clears a c t own b d u other fits there back started = go fits
   where
-    go : (started : Bool) → is_open d.stream.start ≡ started → Fits a b → IsHeard c t d u (out_of c.stream t own.emits) other.track
-    go false shut f = Bare (other.track.shut shut) (other.track.early.unopened shut)
-    go true started (inl f) = Clear (preset_hears a c t own b d u other f.0 f.1 f.2 f.3)
-    go true started (inr (inl f)) =
+    go : Fits a b → t.sent ≡ other.track.intro ++ sequence (expecting d.stream.start) 0 (map segment_octets (out_of c.stream t own.emits))
+    go (inl f) = preset_hears a c t own b d u other f.0 f.1 f.2 f.3
+    go (inr (inl f)) =
         let w = starts a c t own (initiator_not a f.0) in
         let v = starts b d u other (responder_not b f.1) in
         let side = responds v.0.side (v.1.begun.role ∙ f.1) in
-        Clear (responder_hears a c t own w.0 w.1 (initiates w.0.side (w.1.begun.role ∙ f.0)) b d u other v.0 v.1 there back started (subst IsResponding (sym side.1) tt))
-    go true started (inr (inr f)) =
+        responder_hears a c t own w.0 w.1 (initiates w.0.side (w.1.begun.role ∙ f.0)) b d u other v.0 v.1 there back started (subst IsResponding (sym side.1) tt)
+    go (inr (inr f)) =
         let v = starts a c t own (responder_not a f.0) in
         let w = starts b d u other (initiator_not b f.1) in
         let side = responds v.0.side (v.1.begun.role ∙ f.0) in
-        Clear (initiator_hears b d u other w.0 w.1 (initiates w.0.side (w.1.begun.role ∙ f.1)) a c t own v.0 v.1 back there started side.0 side.1)
+        initiator_hears b d u other w.0 w.1 (initiates w.0.side (w.1.begun.role ∙ f.1)) a c t own v.0 v.1 back there started side.0 side.1
+
+-- what an honest end hears of the other
+pub hears_all : (a : Opening) (c : Connected) (t : Tale) (own : Own a c t) (b : Opening) (d : Connected) (u : Tale) (other : Own b d u) → Fits a b → IsOf u.story.came t.sent → IsOf t.story.came u.sent
+    → IsHeard c t d u (out_of c.stream t own.emits) other.track
+hears_all a c t own b d u other fits there back = go (is_open d.stream.start) refl
+  where
+    go : (started : Bool) → is_open d.stream.start ≡ started → IsHeard c t d u (out_of c.stream t own.emits) other.track
+    go false shut = Bare (other.track.shut shut) (other.track.early.unopened shut)
+    go true started = Clear (clears a c t own b d u other fits there back started)

@@ -127,7 +127,7 @@ use Rattle.iw_laws.proofs.Whole.{Seen as BothSeen, seen_at, follows_split}
 -- ---- honest streams
 
 -- the openings of an honest stream understand each other
-fitting : (n : ℕ) (past : List (Entry Octets)) → IsHonest n past → (x : End) → Fits (opening_of n (acts x past)) (opening_of n (acts (other x) past))
+pub fitting : (n : ℕ) (past : List (Entry Octets)) → IsHonest n past → (x : End) → Fits (opening_of n (acts x past)) (opening_of n (acts (other x) past))
 fitting n past honest x =
     subst (λ o. Fits o (opening_of n (acts (other x) past))) (ap opening_in (sym (honest.opened x)))
     (subst (λ o. Fits (honest.opening x) o) (ap opening_in (sym (honest.opened (other x)))) (honest.fits x))

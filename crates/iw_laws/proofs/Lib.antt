@@ -38,6 +38,7 @@ pub mod RefusedEnds
 pub mod Heard
 pub mod Responses
 pub mod Responded
+pub mod SentWhole
 pub mod Delivered
 pub mod Placed
 pub mod Ends
@@ -49,8 +50,16 @@ pub mod RefusedApart
 pub mod EarlyLaws
 pub mod Placements
 pub mod Laws
+pub mod AtRest
+pub mod OneOctet
+pub mod Touched
+pub mod Holding
+pub mod Busy
+pub mod Rested
 pub mod Shorts
 pub mod RefusedEarly
+pub mod RefusedRest
+pub mod RefusedHeld
 pub mod RefusedPools
 pub mod RefusedEnhanced
 pub mod RefusedRtr

@@ -39,7 +39,7 @@ use Rattle.iw_laws.proofs.Delivered.{reread, again, delivered, fits, fits_waitin
 
 -- ---- requests
 
-requests-reread : (ss : List (Segment Octets)) → requests_in (map reread ss) ≡ requests_in ss
+pub requests-reread : (ss : List (Segment Octets)) → requests_in (map reread ss) ≡ requests_in ss
 unfolding reread
 requests-reread [] = refl
 requests-reread (Untagged head payload ∷ ss) = ap (λ z. cond (nat_eq head.queue 1) (request_fields payload ∷ []) [] ++ z) (requests-reread ss)
@@ -49,25 +49,25 @@ requests-reread (Tagged head payload ∷ ss) = go (nat_eq (opcode_of head.contro
     go true = refl
     go false = refl
 
-sinks_fit : (ms : List (Request Octets)) → Each FitsPosted ms → Each SinkFits (reads_among ms)
+pub sinks_fit : (ms : List (Request Octets)) → Each FitsPosted ms → Each SinkFits (reads_among ms)
 sinks_fit [] h = tt
 sinks_fit (Posted message ∷ ms) h = sinks_fit ms h.1
 sinks_fit (Read request ∷ ms) h = (h.0.sink, sinks_fit ms h.1)
 
 -- a Terminate asks for nothing, and answers nothing
-no_requests : (o : Option Octets) → requests_in (farewells o) ≡ []
+pub no_requests : (o : Option Octets) → requests_in (farewells o) ≡ []
 no_requests None = refl
 no_requests (Some payload) = refl
 
-no_responses : (c : Cell) (o : Option Octets) → count_responses c (farewells o) ≡ 0
+pub no_responses : (c : Cell) (o : Option Octets) → count_responses c (farewells o) ≡ 0
 no_responses c None = refl
 no_responses c (Some payload) = refl
 
-no_ended : (o : Option Octets) → count_ended (farewells o) ≡ 0
+pub no_ended : (o : Option Octets) → count_ended (farewells o) ≡ 0
 no_ended None = refl
 no_ended (Some payload) = refl
 
-farewell_fits : (o : Option Octets) → Each AnswerFits (farewells o)
+pub farewell_fits : (o : Option Octets) → Each AnswerFits (farewells o)
 farewell_fits None = tt
 farewell_fits (Some payload) = ((λ h. absurd (false≢true h)), tt)
 
@@ -92,7 +92,7 @@ reread_same s h fits = same_Some _ _ (sym (again s h) ∙ read_segment-spelled s
     go true e = fits e
     go false e = h.fits e
 
-all_same : (ss : List (Segment Octets)) → Each IsSendable ss → Each AnswerFits ss → map reread ss ≡ ss
+pub all_same : (ss : List (Segment Octets)) → Each IsSendable ss → Each AnswerFits ss → map reread ss ≡ ss
 all_same [] h k = refl
 all_same (s ∷ ss) h k = λ i. reread_same s h.0 k.0 i ∷ all_same ss h.1 k.1 i
 

@@ -174,15 +174,15 @@ refuses_foreign_taken h =
 the_send : Frame
 the_send = standing_at (frame_start false 0) (intact send_ulpdu)
 
-send_framed : frame_octets plain 0 send_ulpdu ≡ send_frame
+pub send_framed : frame_octets plain 0 send_ulpdu ≡ send_frame
 unfolding send_ulpdu data_place data_index in_marker place_after marker_value span_start octet_at laid
 send_framed = frame_is plain 0 send_ulpdu refl
 
-send_size : length send_ulpdu ≡ 19
+pub send_size : length send_ulpdu ≡ 19
 unfolding send_ulpdu
 send_size = refl
 
-front_came : in_order (taken_in nothing 0 send_frame) ≡ send_frame
+pub front_came : in_order (taken_in nothing 0 send_frame) ≡ send_frame
 unfolding taken_in held
 front_came = refl
 

@@ -73,7 +73,7 @@ unfolding span_start data_place data_index
 plain_between at aligned = record { aligned = aligned; span = refl }
 
 -- a segment that goes out is told by its frame
-goes_out : (t : Story) (from : ℕ) (segment : Segment Octets) → t.start ≡ AtOnce plain → from % 4 ≡ 0 → FitsSegment segment → length (segment_octets segment) ≤ max_sent
+pub goes_out : (t : Story) (from : ℕ) (segment : Segment Octets) → t.start ≡ AtOnce plain → from % 4 ≡ 0 → FitsSegment segment → length (segment_octets segment) ≤ max_sent
     → segment_out t from (frame_octets plain from (segment_octets segment)) ≡ Some segment
 goes_out t from segment start aligned fits short =
     let octets : Octets = frame_octets plain from (segment_octets segment) in
@@ -109,7 +109,7 @@ comes_first t shown octets first point =
 
 -- ---- the Read of four octets
 
-fits_one : FitsRequest read_one
+pub fits_one : FitsRequest read_one
 fits_one = record {
   sink = record { domain = omega arith; slot = omega arith; key = omega arith };
   sink_to = omega arith;
@@ -146,7 +146,7 @@ unfolding request_ulpdu request_octets data_place data_index in_marker place_aft
 request_framed = ap (frame_octets plain 0) request_is ∙ frame_is plain 0 request_ulpdu refl
 
 -- it goes out
-asked_story : (t : Story) → t.start ≡ AtOnce plain → last_word t.ending ≡ None → story_shown t (shows.Frame 0 request_frame) ≡ sends_segment t (request_segment 1 read_one)
+pub asked_story : (t : Story) → t.start ≡ AtOnce plain → last_word t.ending ≡ None → story_shown t (shows.Frame 0 request_frame) ≡ sends_segment t (request_segment 1 read_one)
 asked_story t start quiet =
     (λ i. cond (nat_lt 0 (first_place_out (start i))) t (option_map_or (says_farewell t) (quiet i) (option_map_or (sends_frame t (is_some (rtr_in (start i)) && nat_eq 0 (first_place_out (start i)))) (segment_out t 0 request_frame) t)))
     ∙ ap (λ o. option_map_or (sends_segment t) o t) (ap (segment_out t 0) (sym request_framed) ∙ goes_out t 0 (request_segment 1 read_one) start (omega arith) (request_fits 1 (omega arith)) (request_short 1))
@@ -209,7 +209,7 @@ refuses_seventeen_reads h =
 
 -- ---- another place than the one that was asked for
 
-request_came : in_order (taken_in nothing 0 request_frame) ≡ request_frame
+pub request_came : in_order (taken_in nothing 0 request_frame) ≡ request_frame
 unfolding taken_in held request_octets
 request_came = refl
 
@@ -232,7 +232,7 @@ takes_up read fits framed t start turns none came =
       request = ap (λ o. request_fields (payload_of o)) carries ∙ fields_again read fits;
     }
 
-takes : (t : Story) → t.start ≡ AtOnce plain → t.turns ≡ 0 → t.asked ≡ nothing_asked → in_order t.came ≡ request_frame → Takes t read_one
+pub takes : (t : Story) → t.start ≡ AtOnce plain → t.turns ≡ 0 → t.asked ≡ nothing_asked → in_order t.came ≡ request_frame → Takes t read_one
 takes t start turns none came = takes_up read_one fits_one request_framed t start turns none came
 
 pub refuses_fetch_elsewhere : RefusesFetchElsewhere
@@ -394,22 +394,22 @@ refuses_ends_early h =
 pub write_ulpdu : Octets
 write_ulpdu = (0xc1 ∷ 0x40 ∷ 1 ∷ 0 ∷ 0 ∷ 0 ∷ []) ++ replicate 8 0 ++ (0xaa ∷ [])
 
-write_is : segment_octets (write_segment stag 0 0 true (0xaa ∷ [])) ≡ write_ulpdu
+pub write_is : segment_octets (write_segment stag 0 0 true (0xaa ∷ [])) ≡ write_ulpdu
 unfolding write_ulpdu segment_octets tagged_octets
 write_is = refl
 
-write_framed : frame_octets plain 0 write_ulpdu ≡ write_frame
+pub write_framed : frame_octets plain 0 write_ulpdu ≡ write_frame
 unfolding write_ulpdu data_place data_index in_marker place_after marker_value span_start octet_at laid
 write_framed = frame_is plain 0 write_ulpdu refl
 
-write_came : in_order (taken_in nothing 0 write_frame) ≡ write_frame
+pub write_came : in_order (taken_in nothing 0 write_frame) ≡ write_frame
 unfolding taken_in held
 write_came = refl
 
 write_carries : read_segment write_ulpdu ≡ Some (write_segment stag 0 0 true (0xaa ∷ []))
 write_carries = ap read_segment (sym write_is) ∙ read_segment-spelled (write_segment stag 0 0 true (0xaa ∷ [])) (record { ddp_version = omega arith; control = omega arith; stag = fits_one.sink; to = omega arith })
 
-write_size : length write_ulpdu ≡ 15
+pub write_size : length write_ulpdu ≡ 15
 unfolding write_ulpdu
 write_size = refl
 
@@ -460,7 +460,7 @@ refuses_sinks_unfetched h =
     calm B = refl
 
 -- the answer to the Read of four octets
-answered_whole : (t : Story) (w : Takes t read_one) → t.begun ≡ [] → t.answers ≡ []
+pub answered_whole : (t : Story) (w : Takes t read_one) → t.begun ≡ [] → t.answers ≡ []
     → (fetches_for (record t { turns = t.turns + 1; asked = next_asked t }) (next_asked t).unanswered first_four).answers ≡ record { request = read_one; octets = first_four } ∷ []
 answered_whole t w none first =
     let next : Story = record t { turns = t.turns + 1; asked = next_asked t } in

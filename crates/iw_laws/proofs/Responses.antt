@@ -167,13 +167,13 @@ merged_ended numbers offset (Response a ∷ items) ss (mine, later, is, one, res
     omega (arith, ap count_ended is, ended-append mine later, response_ended _ a.request offset (drop offset a.octets) mine one.1, merged_ended numbers 0 items later rest)
 
 -- two lists in two cuts: the first part of one begins with that of the other, or stops inside it
-abbrev Reaches : List (Segment Octets) → List (Segment Octets) → List (Segment Octets) → List (Segment Octets) → Type 0
+abbrev pub Reaches : List (Segment Octets) → List (Segment Octets) → List (Segment Octets) → List (Segment Octets) → Type 0
 Reaches first later mine rest = (more : List (Segment Octets)) × (first ≡ mine ++ more) × (more ++ later ≡ rest)
 
-abbrev Stops : List (Segment Octets) → List (Segment Octets) → Type 0
+abbrev pub Stops : List (Segment Octets) → List (Segment Octets) → Type 0
 Stops first mine = (s : Segment Octets) × (more : List (Segment Octets)) × (mine ≡ first ++ s ∷ more)
 
-either : (first later mine rest : List (Segment Octets)) → first ++ later ≡ mine ++ rest → Reaches first later mine rest ⊎ Stops first mine
+pub either : (first later mine rest : List (Segment Octets)) → first ++ later ≡ mine ++ rest → Reaches first later mine rest ⊎ Stops first mine
 either first later [] rest e = inl (first, refl, e)
 either [] later (m ∷ mine) rest e = inr (m, mine, refl)
 either (d ∷ first) later (m ∷ mine) rest e =

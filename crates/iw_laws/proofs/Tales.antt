@@ -231,7 +231,7 @@ queue_unused n done none = queue_still nothing_pooled n done none
 
 -- ---- one more entry
 
-acts-push : (x : End) (trace : List (Entry Octets)) (e : Entry Octets) → acts x (trace ++ e ∷ []) ≡ acts x trace ++ acts_if x e.end e.act
+pub acts-push : (x : End) (trace : List (Entry Octets)) (e : Entry Octets) → acts x (trace ++ e ∷ []) ≡ acts x trace ++ acts_if x e.end e.act
 unfolding acts
 acts-push x trace e = flat_map-push (λ (e : Entry Octets). acts_if x e.end e.act) trace e
 

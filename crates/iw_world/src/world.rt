@@ -9,6 +9,9 @@ ghost use Rattle.iw_laws.specs.Faithful.{Faithful, Answering};
 ghost use Rattle.iw_laws.specs.Sends.{Emission, Sized, Speaks, NothingOnlyAtRest, Finished, FewReads};
 ghost use Rattle.iw_laws.specs.Turns.{Turns};
 ghost use Rattle.iw_laws.specs.Rest.{IdleOnlyAtRest};
+ghost use Rattle.iw_laws.specs.AtRest.{AllArrived};
+ghost use Rattle.iw_laws.specs.Busy.{WorkComesToRest};
+ghost use Rattle.iw_laws.specs.Holds.{HoldsWritten, HoldsFetched};
 ghost use Rattle.iw_laws.specs.Early.{JudgesEarly, ChecksOnce};
 ghost use Rattle.iw_laws.specs.Once.{PlacesOnce};
 ghost use Rattle.iw_laws.specs.Ends.{Ends};
@@ -112,6 +115,10 @@ impl<A: Allocator + Copy> World<A> {
         ensures turns { IfOk result (λ trace. Turns trace.items) }
         // Work answers idle only if no frame can be judged or have its turn, and no message can be handed back.
         ensures idle { IfOk result (λ trace. IdleOnlyAtRest trace.items) }
+        // Then, if all came that the other end sent, all messages have arrived that it sent whole.
+        ensures arrived { IfOk result (λ trace. AllArrived trace.items) }
+        // Of steps of work one after another, so many at most are not idle, unless the stream ends.
+        ensures rests { IfOk result (λ trace. WorkComesToRest trace.items) }
         // Then no frame is left that could be judged before its turn. A frame judged so is placed at once, or left.
         ensures early { IfOk result (λ trace. JudgesEarly trace.items) }
         // A frame that was placed is not checked again at its turn, except for the order of segments.
@@ -127,6 +134,10 @@ impl<A: Allocator + Copy> World<A> {
         ensures faithful { IfOk result (λ trace. Faithful trace.items) }
         // When a Read is done, each octet of its response was placed, and none too often.
         ensures answering { IfOk result (λ trace. Answering trace.items) }
+        // When a Send is received, the octets of the Writes before it stand where they were written; when a Read is done,
+        // those that were fetched for it stand at its sink; unless others were put there.
+        ensures holds_written { IfOk result (λ trace. HoldsWritten trace.items) }
+        ensures holds_fetched { IfOk result (λ trace. HoldsFetched trace.items) }
         // No Read goes out while as many are outstanding as both ends agreed on.
         ensures few_reads { IfOk result (λ trace. FewReads trace.items) }
         // Each call at an end is answered by its regions, pools and streams, as the entries before it leave them.

@@ -1,6 +1,9 @@
 -- Each law follows from the rules.
 use Rattle.std.proofs.lemmas.Result.{IfOk-weaker}
 use Rattle.iw_laws.proofs.Laws.{in_order, covered, emission, sized_all, speaks_all, finished_all, answered_all, keeps_octets, carries_octets, opens_first, fetched_all, answering_all, few_reads, turns_all, nothing_at_rest, idle_at_rest, early_all, second_all, once_all, ends_all, within_all, shows_memory}
+use Rattle.iw_laws.proofs.AtRest.{all_arrived}
+use Rattle.iw_laws.proofs.Rested.{work_rests}
+use Rattle.iw_laws.proofs.Holding.{holds_written, holds_fetched}
 use Rattle.iw_laws.proofs.Apart.{isolated_all}
 use Rattle.iw_world.proofs.world.World.run.Goals as goal
 
@@ -51,6 +54,18 @@ returns-clause-nothing g c = IfOk-weaker c.trace_of.result _ _ (λ trace follows
 
 pub returns-clause-idle : goal.returns-clause-idle
 returns-clause-idle g c = IfOk-weaker c.trace_of.result _ _ (λ trace follows. idle_at_rest trace.items follows) c.trace_of.ensures.follows
+
+pub returns-clause-arrived : goal.returns-clause-arrived
+returns-clause-arrived g c = IfOk-weaker c.trace_of.result _ _ (λ trace follows. all_arrived trace.items follows) c.trace_of.ensures.follows
+
+pub returns-clause-rests : goal.returns-clause-rests
+returns-clause-rests g c = IfOk-weaker c.trace_of.result _ _ (λ trace follows. work_rests trace.items follows) c.trace_of.ensures.follows
+
+pub returns-clause-holds_written : goal.returns-clause-holds_written
+returns-clause-holds_written g c = IfOk-weaker c.trace_of.result _ _ (λ trace follows. holds_written trace.items follows) c.trace_of.ensures.follows
+
+pub returns-clause-holds_fetched : goal.returns-clause-holds_fetched
+returns-clause-holds_fetched g c = IfOk-weaker c.trace_of.result _ _ (λ trace follows. holds_fetched trace.items follows) c.trace_of.ensures.follows
 
 pub returns-clause-early : goal.returns-clause-early
 returns-clause-early g c = IfOk-weaker c.trace_of.result _ _ (λ trace follows. early_all trace.items follows) c.trace_of.ensures.follows

@@ -1,0 +1,5 @@
+use Rattle.iw_laws.proofs.RefusedRest.{refuses_nothing_received}
+use Rattle.iw_laws.proofs.rest_runs.refuses_nothing_received.Goals as goal
+
+pub returns : goal.returns
+returns c = refuses_nothing_received
