@@ -12,8 +12,9 @@
  *    the sequence number of the first of them, which is the number of octets that came before it, modulo 2^32
  *    (iwarp_deliver). Then it calls iwarp_work_on, or iwarp_work, until it reports IWARP_IDLE. At IWARP_ASKED it calls
  *    iwarp_accept or iwarp_reject and goes on;
- * 4. when the socket is writable: calls iwarp_emit until it reports IWARP_NOTHING, and writes out what each call gave.
- *    iwarp_wants_write tells when to wait for that;
+ * 4. when the socket is writable: calls iwarp_fill, writes the buffer out, and drops what was written
+ *    (iwarp_buffer_drop_front): what the socket did not take is written before more is emitted. Or it calls iwarp_emit, for
+ *    one frame in memory of its own, until it reports IWARP_NOTHING. iwarp_wants_write tells when to wait for that;
  * 5. after IWARP_OPENED or a successful iwarp_accept: posts Writes, Sends and Reads (iwarp_post_write and so on), then
  *    does 4;
  * 6. when the connection closed: calls iwarp_break, then iwarp_work_on until IWARP_IDLE, which hands back what was
@@ -26,8 +27,11 @@
  *   copies is used from then on. Nothing else writes its field.
  * - The program reads and writes the octets of its buffers and regions, at the addresses that iwarp_buffer_at and
  *   iwarp_region_at tell, only between calls on that buffer or on that region's handle, and passes no pointer to them to
- *   such a call. It writes to a place that iwarp_room lent only before the next call on that handle, and to octets that
- *   were posted from a buffer only after they were fetched.
+ *   such a call. It writes to octets that were posted from a buffer only after they were fetched.
+ * - The program, or the system for it, writes to a place that iwarp_room lent only until the place is taken back: by the next
+ *   call of iwarp_room, iwarp_came, iwarp_deliver, iwarp_work, iwarp_work_on, iwarp_emit, iwarp_emit_onto, iwarp_fill,
+ *   iwarp_accept, iwarp_reject, iwarp_break or iwarp_close on that stream, whatever it returns, and by iwarp_free. Calls on
+ *   other streams, and others on that stream, may go on meanwhile.
  * - No pointer is null, even if its count is 0. `octets` and `private_data` point to `n` octets that can be read, and
  *   that nothing writes during the call; `out` points to `room` octets that can be written. What the pointers of one
  *   call point to does not overlap.
@@ -128,7 +132,7 @@ enum {
     IWARP_NOT_AT_REST = 36, /* the stream is open, or has something left to hand back or to emit */
     IWARP_NUMBERS_SPENT = 37, /* all numbers of streams, up to 2^32 - 1, were given */
     IWARP_WINDOW_FULL = 38, /* the stream's window has no room before iwarp_work makes some */
-    IWARP_NOT_LENT = 39 /* no place was lent for so many octets, or they are none */
+    IWARP_NOT_LENT = 39 /* no place is lent for so many octets, since it was taken back for instance; or they are none */
 };
 
 /* Tells the address of a text that says what a code means. The text is never freed. */
@@ -158,7 +162,7 @@ int32_t iwarp_add_domain(struct iwarp *handle, uint32_t pd);
 /* ---- buffers */
 
 /* Makes a buffer of `n` zero octets. They can become a region, a receive buffer or a message and come back, with nothing
- * copied: they stay at their address until they are freed, or iwarp_emit_onto is called with the buffer. */
+ * copied: they stay at their address until they are freed, or iwarp_fill or iwarp_emit_onto is called with the buffer. */
 int32_t iwarp_buffer_new(size_t n, struct iwarp_buffer *buffer);
 
 /* Frees the buffer's octets: then it is IWARP_NO_BUFFER. A second call does nothing. */
@@ -170,6 +174,10 @@ int32_t iwarp_buffer_at(struct iwarp_buffer *buffer, uint8_t **at, size_t *n);
 /* Keeps the first `n` octets, or all if there are no more. The memory of the others stays with the buffer, for what is put
  * behind those that are kept. */
 int32_t iwarp_buffer_truncate(struct iwarp_buffer *buffer, size_t n);
+
+/* Drops the first `n` octets, or all if there are no more: after a write that took a part. The others move to the front, and the
+ * memory stays with the buffer. */
+int32_t iwarp_buffer_drop_front(struct iwarp_buffer *buffer, size_t n);
 
 /* ---- regions */
 
@@ -421,14 +429,17 @@ int32_t iwarp_first_number(struct iwarp *handle, uint32_t stream, uint32_t numbe
 int32_t iwarp_deliver(struct iwarp *handle, uint32_t stream, uint32_t number, const uint8_t *octets, size_t n, uint32_t *kept);
 
 /* Lends the place past the last octet that came, so that a program reads a socket to where the octets are to stand. `*at` is
- * its address, and `*n` for how many octets it has room: at most `want`, and at most 65,536. Read at most so many to it, and
- * call iwarp_came before any other call on the handle. IWARP_WINDOW_FULL: call iwarp_work_on until it reports IWARP_IDLE,
- * which makes room. A stream that has ended lends a place as well, of at most 4,096 octets; what comes is dropped. */
+ * its address, and `*n` for how many octets it has room: at most `want`, and at most 65,536. With `want` 0 none are lent: a read
+ * of no octets looks like the end of input. Read at most so many to it, and call iwarp_came. Until then the place stays lent, at
+ * many streams at once, as for reads that the system does meanwhile; the head of this file says by which calls on this stream it is
+ * taken back. IWARP_WINDOW_FULL: call iwarp_work_on until it reports IWARP_IDLE, which makes room, unless the peer's Request has
+ * come: then nothing makes room before iwarp_accept or iwarp_reject. A stream that has ended lends a place as well, of at most 4,096
+ * octets, the same to all such streams; what comes is dropped. */
 int32_t iwarp_room(struct iwarp *handle, uint32_t stream, size_t want, uint8_t **at, size_t *n);
 
-/* Takes the first `n` octets of the place that iwarp_room lent last at this stream, as iwarp_deliver does those past the last
- * octet that came. None of them is dropped, unless the stream has ended. No place is lent then. IWARP_NOT_LENT: `n` is 0, or
- * more than were lent. */
+/* Takes the first `n` octets of the place that is lent at this stream, as iwarp_deliver does those past the last octet that came.
+ * None of them is dropped, unless the stream has ended. No place is lent then. IWARP_NOT_LENT: `n` is 0, or more than are lent;
+ * none are if the place was taken back, and what was written there is lost. */
 int32_t iwarp_came(struct iwarp *handle, uint32_t stream, size_t n);
 
 /* What a step of work did. */
@@ -502,8 +513,8 @@ int32_t iwarp_fetch_buffer(struct iwarp *handle, uint32_t stream, struct iwarp_b
  * posted from a buffer, or its octets were fetched, the buffer has none then. With the next IWARP_DONE or IWARP_FLUSHED on the
  * stream, octets that were not fetched are freed. After IWARP_NO_MEMORY they can still be fetched. The octets stay at their
  * address, and none is written: fill them there and post the buffer again. A call by which such octets become a region or a
- * receive buffer, and iwarp_emit_onto, first write each onto itself, once, which takes longer than a copy: so keep buffers for
- * messages apart from those for regions. */
+ * receive buffer, iwarp_fill and iwarp_emit_onto first write each onto itself, once, which takes longer than a copy: so keep
+ * buffers for messages apart from those for regions and for frames. */
 int32_t iwarp_fetch_sent(struct iwarp *handle, uint32_t stream, struct iwarp_buffer *buffer);
 
 /* What a call of iwarp_emit did. */
@@ -536,6 +547,33 @@ int32_t iwarp_emit(struct iwarp *handle, uint32_t stream, uint8_t *out, size_t r
  * they are written, iwarp_buffer_truncate with 0 leaves the memory for the next. The buffer's octets may stand at another
  * address then, also if the call returns IWARP_NO_MEMORY. */
 int32_t iwarp_emit_onto(struct iwarp *handle, uint32_t stream, struct iwarp_buffer *buffer, struct iwarp_emission *emission);
+
+/* Where a call of iwarp_fill stopped. */
+enum {
+    IWARP_FILL_ALL = 0, /* nothing more is due */
+    IWARP_FILL_MORE = 1, /* frames were appended, and more may be due: one more would be too much, or there is no memory for one */
+    IWARP_FILL_DENIED = 2 /* the peer may not read what is due, and the stream has ended by a fault, `layer`, `error`, `code` */
+};
+
+/* `layer`, `error` and `code` are 0 but for IWARP_FILL_DENIED, and so are the fields that are reserved. */
+struct iwarp_filling {
+    uint32_t kind; /* IWARP_FILL_ALL and so on */
+    uint32_t layer;
+    uint32_t error;
+    uint32_t code;
+    uint64_t frames; /* that were appended */
+    uint64_t n; /* their octets */
+    uint64_t reserved[4];
+};
+
+/* Appends to a buffer what a stream is to send, frame by frame, until nothing is due, or one frame more would make what this call
+ * appends more than `most` octets. A first frame is appended whatever its length, so 0 stands for one. The stream counts as sent
+ * what was appended: write the buffer out whole and in order. What the socket took is dropped by iwarp_buffer_drop_front (or by
+ * iwarp_buffer_truncate with 0, once it took all). Then call again: after IWARP_FILL_MORE the next frame is appended, after
+ * IWARP_FILL_DENIED the Terminate. Frames before either stand in the buffer. A refusal means that nothing has changed, but that the
+ * buffer's octets may stand at another address. It is the first that applies of IWARP_IS_CLOSED, IWARP_BUFFER_MISSING,
+ * IWARP_NO_SUCH_STREAM, IWARP_TOO_FAR and IWARP_NO_MEMORY; the last comes only if no frame was appended. */
+int32_t iwarp_fill(struct iwarp *handle, uint32_t stream, size_t most, struct iwarp_buffer *buffer, struct iwarp_filling *filling);
 
 /* Tells whether iwarp_emit has anything to report: `*wants` is 0 if it would report IWARP_NOTHING, else 1. A program waits for
  * its socket to be writable if it is 1, or if some of what was emitted is not yet written. */

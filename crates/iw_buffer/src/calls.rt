@@ -1,5 +1,5 @@
 // Calls on a buffer.
-ghost use Rattle.std.specs.Prelude.{◌≡◌, None, Some, length, take, IfSome, IfErr, IfOk, OnOk, OnErr};
+ghost use Rattle.std.specs.Prelude.{◌≡◌, None, Some, length, take, drop, IfSome, IfErr, IfOk, OnOk, OnErr};
 ghost use Rattle.std.specs.Option.{option_map};
 ghost use Rattle.std.specs.Result.{result_err};
 ghost use Rattle.iw_buffer.specs.Octets.{buffer_refusal, zeroes};
@@ -78,6 +78,20 @@ impl Buffer {
             return Err(BufferRefusal::NoBuffer);
         };
         contents.truncate(alloc, n);
+        self.put(contents);
+        Ok(())
+    }
+
+    /// Drops the first `n` octets, or all if there are no more. The others move to the front, and the memory stays for octets
+    /// that are put behind. An `Err` changes nothing.
+    pub fn drop_front(&mut self, alloc: Global, n: usize) -> Result<(), BufferRefusal>
+        ensures refused { result_err result ≡ buffer_refusal self.old.state }
+        ensures after { self.new.state ≡ option_map (λ octets. drop n octets) self.old.state }
+    {
+        let Some(mut contents) = self.take(alloc) else {
+            return Err(BufferRefusal::NoBuffer);
+        };
+        contents.drop_front(alloc, n);
         self.put(contents);
         Ok(())
     }

@@ -1,4 +1,4 @@
-ghost use Rattle.std.specs.Prelude.{◌≡◌, ◌+◌, ◌≤◌, ◌==◌, [], length, take, vec_len, vec_capacity, IfOk, IfErr, OnOk, OnErr};
+ghost use Rattle.std.specs.Prelude.{◌≡◌, ◌+◌, ◌≤◌, ◌==◌, [], length, take, drop, vec_len, vec_capacity, IfOk, IfErr, OnOk, OnErr};
 
 use bytes::{Bytes, BytesMut};
 use std::alloc::{AllocError, AllocFailed, Global};
@@ -85,6 +85,27 @@ impl Contents {
                 if n == 0 {
                     self.form = Form::Vector(std::mem::replace(room, Vec::new(alloc)));
                 }
+            }
+        }
+    }
+
+    /// Drops the first `n` octets, or all if there are no more: the others move to the front, at the same address. Memory stays.
+    pub fn drop_front(&mut self, alloc: Global, n: usize)
+        ensures { self.new ≡ drop n self.old }
+    {
+        let len = self.len();
+        if n >= len {
+            self.truncate(alloc, 0);
+            return;
+        }
+        match &mut self.form {
+            Form::Vector(octets) => {
+                octets.copy_within(n.., 0);
+                octets.truncate(len - n);
+            }
+            Form::Returned(octets, _) => {
+                octets.as_mut_slice().copy_within(n.., 0);
+                octets.truncate(len - n);
             }
         }
     }

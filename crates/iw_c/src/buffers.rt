@@ -1,5 +1,5 @@
 // Buffers that C keeps, and octets that change hands with no copy.
-ghost use Rattle.std.specs.Prelude.{◌≡◌, ◌≢◌, ◌⊎◌, ◌++◌, pos, None, Some, [], length, take, IfSome, IfNone};
+ghost use Rattle.std.specs.Prelude.{◌≡◌, ◌≢◌, ◌⊎◌, ◌++◌, pos, None, Some, [], length, take, drop, IfSome, IfNone};
 ghost use Rattle.std.specs.Option.{option_map};
 ghost use Rattle.std.specs.Result.{result_err};
 ghost use Rattle.iw_buffer.specs.Octets.{buffer_refusal, zeroes};
@@ -8,14 +8,15 @@ ghost use Rattle.iw_memory.specs.Table.{next_stag};
 ghost use Rattle.iw_endpoint.specs.Endpoint.{registered, deregistered, octets_of};
 ghost use Rattle.iw_endpoint.specs.Endpoint.{emission_at, emitted_at, after_emit};
 ghost use Rattle.iw_handle.specs.Events.{emitted_of, IsFrame};
+ghost use Rattle.iw_handle.specs.Filling.{FillsAt};
 ghost use Rattle.iw_handle.specs.Refusals.{buffer_reason, code_of, refusal_code};
 ghost use Rattle.iw_handle.specs.Regions.{region_refusal, refusal_to_register};
-ghost use Rattle.iw_handle.specs.State.{refusal_with, changed, told_in, shown_in};
+ghost use Rattle.iw_handle.specs.State.{called_on, refusal_with, changed, told_in, shown_in};
 ghost use Rattle.iw_handle.specs.Streams.{refusal_to_go_on};
 ghost use Rattle.iw_handle.specs.Words.{domain_number, rights_of};
 
 use iw_buffer::{Buffer, BufferRefusal};
-use iw_handle::{Emitted, Handle, buffer_reason, code, domain_number, stag_of};
+use iw_handle::{Emitted, Filling, Handle, buffer_reason, code, domain_number, stag_of};
 use std::alloc::Global;
 
 // The code of a call on a buffer.
@@ -70,6 +71,15 @@ pub extern "C" fn iwarp_buffer_truncate(alloc: Global, buffer: &mut Buffer, n: u
     ensures after { buffer.new.state ≡ option_map (λ octets. take n octets) buffer.old.state }
 {
     buffer_code(buffer.truncate(alloc, n))
+}
+
+/// Drops the first `n` octets of a buffer.
+#[unsafe(no_mangle)]
+pub extern "C" fn iwarp_buffer_drop_front(alloc: Global, buffer: &mut Buffer, n: usize) -> i32
+    ensures code { result ≡ pos (code_of (option_map buffer_reason (buffer_refusal buffer.old.state))) }
+    ensures after { buffer.new.state ≡ option_map (λ octets. drop n octets) buffer.old.state }
+{
+    buffer_code(buffer.drop_front(alloc, n))
 }
 
 /// Registers a buffer's octets themselves, and tells the STag.
@@ -132,25 +142,53 @@ pub extern "C" fn iwarp_emit_onto(
     buffer: &mut Buffer,
     emitted: &mut Emitted,
 ) -> i32
-    ensures refused { IfSome (refusal_with handle.old.state buffer.old.state
+    ensures refused { IfSome (refusal_with (called_on handle.old.state number) buffer.old.state
         (λ e octets. refusal_to_go_on e number)) (λ r. result ≡ pos (refusal_code r)) }
-    ensures memory { IfNone (refusal_with handle.old.state buffer.old.state
+    ensures memory { IfNone (refusal_with (called_on handle.old.state number) buffer.old.state
         (λ e octets. refusal_to_go_on e number)) ((result ≡ pos 0) ⊎ (result ≡ pos 3)) }
-    ensures want { result ≡ pos 3 → IfSome handle.old.state
+    ensures want { result ≡ pos 3 → IfSome (called_on handle.old.state number)
         (λ held. IsFrame (emission_at held.endpoint number)) }
-    ensures emitted { result ≡ pos 0 → Some emitted.new ≡ told_in handle.old.state
+    ensures emitted { result ≡ pos 0 → Some emitted.new ≡ told_in (called_on handle.old.state number)
         (λ e. emitted_of (emission_at e number)) }
     ensures untold { result ≢ pos 0 → emitted.new ≡ emitted.old }
     ensures octets { result ≡ pos 0 → IfSome buffer.old.state (λ octets.
-        buffer.new.state ≡ told_in handle.old.state (λ e. octets ++ emitted_at e number)) }
-    ensures ok { result ≡ pos 0 → handle.new.state ≡ changed handle.old.state
+        buffer.new.state ≡ told_in (called_on handle.old.state number) (λ e. octets ++ emitted_at e number)) }
+    ensures ok { result ≡ pos 0 → handle.new.state ≡ changed (called_on handle.old.state number)
         (λ e. after_emit e number) }
-    ensures err { result ≢ pos 0 → handle.new.state ≡ handle.old.state }
+    ensures err { result ≢ pos 0 → handle.new.state ≡ called_on handle.old.state number }
     ensures back { result ≢ pos 0 → buffer.new.state ≡ buffer.old.state }
 {
     let done = handle.emit_onto(alloc, number, buffer);
     if let Ok(told) = done {
         *emitted = told;
+    }
+    code(done.err())
+}
+
+/// Emits frames of a stream behind what stands in a buffer, at most `most` octets but for a first frame that is longer, and
+/// tells in numbers where that stops.
+#[unsafe(no_mangle)]
+pub extern "C" fn iwarp_fill(
+    alloc: Global,
+    handle: &mut Handle,
+    number: u32,
+    most: usize,
+    buffer: &mut Buffer,
+    filling: &mut Filling,
+) -> i32
+    ensures refused { IfSome (refusal_with (called_on handle.old.state number) buffer.old.state
+        (λ e octets. refusal_to_go_on e number)) (λ r. result ≡ pos (refusal_code r)) }
+    ensures memory { IfNone (refusal_with (called_on handle.old.state number) buffer.old.state
+        (λ e octets. refusal_to_go_on e number)) ((result ≡ pos 0) ⊎ (result ≡ pos 3)) }
+    ensures ok { result ≡ pos 0 → IfSome (called_on handle.old.state number) (λ held. IfSome buffer.old.state
+        (λ octets. FillsAt held number most octets handle.new.state buffer.new.state filling.new)) }
+    ensures untold { result ≢ pos 0 → filling.new ≡ filling.old }
+    ensures err { result ≢ pos 0 → handle.new.state ≡ called_on handle.old.state number }
+    ensures back { result ≢ pos 0 → buffer.new.state ≡ buffer.old.state }
+{
+    let done = handle.fill(alloc, number, most, buffer);
+    if let Ok(told) = done {
+        *filling = told;
     }
     code(done.err())
 }

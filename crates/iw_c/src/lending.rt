@@ -2,7 +2,7 @@
 ghost use Rattle.std.specs.Prelude.{◌≡◌, ◌≢◌, ◌⊎◌, ◌<◌, pos, Some, IfSome, IfNone, IsSomeAnd};
 ghost use Rattle.iw_handle.specs.Lending.{lendable_at, IsFull, lent_at, lent_in, HasTaken};
 ghost use Rattle.iw_handle.specs.Refusals.{refusal_code};
-ghost use Rattle.iw_handle.specs.State.{refusal_in, told_in, stream_refusal};
+ghost use Rattle.iw_handle.specs.State.{called_on, refusal_in, told_in, stream_refusal};
 
 use iw_handle::{Handle, code};
 use std::alloc::Global;
@@ -17,15 +17,15 @@ pub extern "C" fn iwarp_room(
     at: &mut *mut u8,
     n: &mut usize,
 ) -> i32
-    ensures refused { IfSome (refusal_in handle.old.state (λ e. stream_refusal e number))
+    ensures refused { IfSome (refusal_in (called_on handle.old.state number) (λ e. stream_refusal e number))
         (λ r. result ≡ pos (refusal_code r)) }
-    ensures why { IfNone (refusal_in handle.old.state (λ e. stream_refusal e number))
+    ensures why { IfNone (refusal_in (called_on handle.old.state number) (λ e. stream_refusal e number))
         ((result ≡ pos 0) ⊎ (result ≡ pos 38) ⊎ (result ≡ pos 3)) }
-    ensures full { result ≡ pos 38 → IfSome handle.old.state (λ held. IsFull held.endpoint number) }
-    ensures lent { result ≡ pos 0 → Some n.new ≡ told_in handle.old.state (λ e. lendable_at e number want) }
+    ensures full { result ≡ pos 38 → IfSome (called_on handle.old.state number) (λ held. IsFull held.endpoint number) }
+    ensures lent { result ≡ pos 0 → Some n.new ≡ told_in (called_on handle.old.state number) (λ e. lendable_at e number want) }
     ensures kept { result ≢ pos 0 → (at.new ≡ at.old) × (n.new ≡ n.old) }
-    ensures ok { result ≡ pos 0 → handle.new.state ≡ lent_in handle.old.state number n.new }
-    ensures err { result ≢ pos 0 → handle.new.state ≡ handle.old.state }
+    ensures ok { result ≡ pos 0 → handle.new.state ≡ lent_in (called_on handle.old.state number) number n.new }
+    ensures err { result ≢ pos 0 → handle.new.state ≡ called_on handle.old.state number }
 {
     let done = handle.room(alloc, number, want, at);
     if let Ok(lent) = done {

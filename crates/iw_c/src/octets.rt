@@ -4,7 +4,7 @@ ghost use Rattle.std.specs.Option.{option_map};
 ghost use Rattle.iw_endpoint.specs.Endpoint.{with_first, delivery_at, after_deliver, emission_at, after_emit};
 ghost use Rattle.iw_handle.specs.Events.{flag, kept_number, emitted_of, IsFrame};
 ghost use Rattle.iw_handle.specs.Refusals.{code_of, refusal_code};
-ghost use Rattle.iw_handle.specs.State.{refusal_in, changed, told_in, shown_in, stream_refusal};
+ghost use Rattle.iw_handle.specs.State.{called_on, refusal_in, changed, told_in, shown_in, stream_refusal};
 ghost use Rattle.iw_handle.specs.State.{copy_refusal, filled, length_told};
 ghost use Rattle.iw_handle.specs.Streams.{refusal_to_work, refusal_to_emit, refusal_to_go_on, due_shown, wants_write, progress_at};
 ghost use Rattle.iw_handle.specs.Steps.{TellsOn};
@@ -42,18 +42,18 @@ pub extern "C" fn iwarp_deliver(
     octets: &[u8],
     kept: &mut u32,
 ) -> i32
-    ensures refused { IfSome (refusal_in handle.old.state (λ e. stream_refusal e number))
+    ensures refused { IfSome (refusal_in (called_on handle.old.state number) (λ e. stream_refusal e number))
         (λ r. result ≡ pos (refusal_code r)) }
-    ensures memory { IfNone (refusal_in handle.old.state (λ e. stream_refusal e number))
+    ensures memory { IfNone (refusal_in (called_on handle.old.state number) (λ e. stream_refusal e number))
         ((result ≡ pos 0) ⊎ (result ≡ pos 3)) }
-    ensures want { IfSome handle.old.state
+    ensures want { IfSome (called_on handle.old.state number)
         (λ held. result ≡ pos 3 → BringsAt held.endpoint number sequence (length octets.now)) }
-    ensures delivery { result ≡ pos 0 → Some kept.new ≡ told_in handle.old.state
+    ensures delivery { result ≡ pos 0 → Some kept.new ≡ told_in (called_on handle.old.state number)
         (λ e. kept_number (delivery_at e number sequence (length octets.now))) }
     ensures kept { result ≢ pos 0 → kept.new ≡ kept.old }
-    ensures ok { result ≡ pos 0 → handle.new.state ≡ changed handle.old.state
+    ensures ok { result ≡ pos 0 → handle.new.state ≡ changed (called_on handle.old.state number)
         (λ e. after_deliver e number sequence octets.now) }
-    ensures err { result ≢ pos 0 → handle.new.state ≡ handle.old.state }
+    ensures err { result ≢ pos 0 → handle.new.state ≡ called_on handle.old.state number }
 {
     let done = handle.deliver(alloc, number, sequence, octets);
     if let Ok(delivery) = done {
@@ -70,16 +70,16 @@ pub extern "C" fn iwarp_work(
     number: u32,
     event: &mut Event,
 ) -> i32
-    ensures refused { IfSome (refusal_in handle.old.state (λ e. refusal_to_work e number))
+    ensures refused { IfSome (refusal_in (called_on handle.old.state number) (λ e. refusal_to_work e number))
         (λ r. result ≡ pos (refusal_code r)) }
-    ensures memory { IfNone (refusal_in handle.old.state (λ e. refusal_to_work e number))
+    ensures memory { IfNone (refusal_in (called_on handle.old.state number) (λ e. refusal_to_work e number))
         ((result ≡ pos 0) ⊎ (result ≡ pos 3)) }
-    ensures want { result ≡ pos 3 → IfSome handle.old.state (λ held. TriesAt held.endpoint number) }
+    ensures want { result ≡ pos 3 → IfSome (called_on handle.old.state number) (λ held. TriesAt held.endpoint number) }
     ensures event { result ≡ pos 0 → Some event.new ≡ option_map
-        (λ held. event_in held number) handle.old.state }
+        (λ held. event_in held number) (called_on handle.old.state number) }
     ensures kept { result ≢ pos 0 → event.new ≡ event.old }
-    ensures ok { result ≡ pos 0 → handle.new.state ≡ worked handle.old.state number }
-    ensures err { result ≢ pos 0 → handle.new.state ≡ handle.old.state }
+    ensures ok { result ≡ pos 0 → handle.new.state ≡ worked (called_on handle.old.state number) number }
+    ensures err { result ≢ pos 0 → handle.new.state ≡ called_on handle.old.state number }
 {
     code(handle.work(alloc, number, event).err())
 }
@@ -92,8 +92,8 @@ pub extern "C" fn iwarp_work_on(
     number: u32,
     event: &mut Event,
 ) -> i32
-    ensures closed { handle.old.state ≡ None → (result ≡ pos 1) × (handle.new.state ≡ None) }
-    ensures steps { IfSome handle.old.state (λ held.
+    ensures closed { (called_on handle.old.state number) ≡ None → (result ≡ pos 1) × (handle.new.state ≡ None) }
+    ensures steps { IfSome (called_on handle.old.state number) (λ held.
         IsSomeAnd handle.new.state (λ after. TellsOn QUIET_STEPS held number result event.new after)) }
     ensures kept { result ≢ pos 0 → event.new ≡ event.old }
 {
@@ -130,24 +130,24 @@ pub extern "C" fn iwarp_emit(
     len: &mut usize,
     emitted: &mut Emitted,
 ) -> i32
-    ensures refused { IfSome (refusal_in handle.old.state
+    ensures refused { IfSome (refusal_in (called_on handle.old.state number)
         (λ e. refusal_to_emit e number (length out.old)))
         (λ r. result ≡ pos (refusal_code r)) }
-    ensures memory { IfNone (refusal_in handle.old.state
+    ensures memory { IfNone (refusal_in (called_on handle.old.state number)
         (λ e. refusal_to_emit e number (length out.old)))
         ((result ≡ pos 0) ⊎ (result ≡ pos 3)) }
-    ensures want { result ≡ pos 3 → IfSome handle.old.state
+    ensures want { result ≡ pos 3 → IfSome (called_on handle.old.state number)
         (λ held. IsFrame (emission_at held.endpoint number)) }
-    ensures len { len.new ≡ length_told (shown_in handle.old.state (λ e. due_shown e number)) len.old }
-    ensures emitted { result ≡ pos 0 → Some emitted.new ≡ told_in handle.old.state
+    ensures len { len.new ≡ length_told (shown_in (called_on handle.old.state number) (λ e. due_shown e number)) len.old }
+    ensures emitted { result ≡ pos 0 → Some emitted.new ≡ told_in (called_on handle.old.state number)
         (λ e. emitted_of (emission_at e number)) }
     ensures untold { result ≢ pos 0 → emitted.new ≡ emitted.old }
-    ensures octets { result ≡ pos 0 → out.new ≡ filled (shown_in handle.old.state
+    ensures octets { result ≡ pos 0 → out.new ≡ filled (shown_in (called_on handle.old.state number)
         (λ e. due_shown e number)) out.old }
     ensures kept { result ≢ pos 0 → out.new ≡ out.old }
-    ensures ok { result ≡ pos 0 → handle.new.state ≡ changed handle.old.state
+    ensures ok { result ≡ pos 0 → handle.new.state ≡ changed (called_on handle.old.state number)
         (λ e. after_emit e number) }
-    ensures err { result ≢ pos 0 → handle.new.state ≡ handle.old.state }
+    ensures err { result ≢ pos 0 → handle.new.state ≡ called_on handle.old.state number }
 {
     let done = handle.emit(alloc, number, out, len);
     if let Ok(told) = done {

@@ -4,7 +4,7 @@ ghost use Rattle.iw_endpoint.specs.Endpoint.{opened, accepted, rejected, agreeme
 ghost use Rattle.iw_handle.specs.Events.{agreed_flags, peer_told, state_number};
 ghost use Rattle.iw_handle.specs.Openings.{opened_in};
 ghost use Rattle.iw_handle.specs.Refusals.{code_of, refusal_code};
-ghost use Rattle.iw_handle.specs.State.{refusal_in, changed, told_in, shown_in, stream_refusal};
+ghost use Rattle.iw_handle.specs.State.{called_on, refusal_in, changed, told_in, shown_in, stream_refusal};
 ghost use Rattle.iw_handle.specs.State.{copy_refusal, filled, length_told};
 ghost use Rattle.iw_handle.specs.Streams.{refusal_to_open, refusal_to_answer, size_refusal, private_shown};
 ghost use Rattle.iw_handle.specs.Words.{domain_number, role_in, config_of, private_of};
@@ -51,13 +51,13 @@ pub extern "C" fn iwarp_accept(
     agreed: &mut u32,
 ) -> i32
     ensures code { result ≡ pos
-        (code_of (refusal_in handle.old.state (λ e. refusal_to_answer e number private.now))) }
-    ensures agreed { result ≡ pos 0 → Some agreed.new ≡ told_in handle.old.state
+        (code_of (refusal_in (called_on handle.old.state number) (λ e. refusal_to_answer e number private.now))) }
+    ensures agreed { result ≡ pos 0 → Some agreed.new ≡ told_in (called_on handle.old.state number)
         (λ e. agreed_flags (agreement e number)) }
     ensures kept { result ≢ pos 0 → agreed.new ≡ agreed.old }
-    ensures ok { result ≡ pos 0 → handle.new.state ≡ changed handle.old.state
+    ensures ok { result ≡ pos 0 → handle.new.state ≡ changed (called_on handle.old.state number)
         (λ e. accepted e number (private_of private.now)) }
-    ensures err { result ≢ pos 0 → handle.new.state ≡ handle.old.state }
+    ensures err { result ≢ pos 0 → handle.new.state ≡ called_on handle.old.state number }
 {
     let done = handle.accept(alloc, number, private);
     if let Ok(told) = done {
@@ -75,10 +75,10 @@ pub extern "C" fn iwarp_reject(
     private: &[u8],
 ) -> i32
     ensures code { result ≡ pos
-        (code_of (refusal_in handle.old.state (λ e. refusal_to_answer e number private.now))) }
-    ensures ok { result ≡ pos 0 → handle.new.state ≡ changed handle.old.state
+        (code_of (refusal_in (called_on handle.old.state number) (λ e. refusal_to_answer e number private.now))) }
+    ensures ok { result ≡ pos 0 → handle.new.state ≡ changed (called_on handle.old.state number)
         (λ e. rejected e number (private_of private.now)) }
-    ensures err { result ≢ pos 0 → handle.new.state ≡ handle.old.state }
+    ensures err { result ≢ pos 0 → handle.new.state ≡ called_on handle.old.state number }
 {
     code(handle.reject(alloc, number, private).err())
 }
@@ -152,9 +152,9 @@ pub extern "C" fn iwarp_state(
 /// Reports that a stream's link broke: the stream has ended, and nothing more is emitted.
 #[unsafe(no_mangle)]
 pub extern "C" fn iwarp_break(alloc: Global, handle: &mut Handle, number: u32) -> i32
-    ensures code { result ≡ pos (code_of (refusal_in handle.old.state (λ e. stream_refusal e number))) }
-    ensures ok { result ≡ pos 0 → handle.new.state ≡ changed handle.old.state (λ e. broken e number) }
-    ensures err { result ≢ pos 0 → handle.new.state ≡ handle.old.state }
+    ensures code { result ≡ pos (code_of (refusal_in (called_on handle.old.state number) (λ e. stream_refusal e number))) }
+    ensures ok { result ≡ pos 0 → handle.new.state ≡ changed (called_on handle.old.state number) (λ e. broken e number) }
+    ensures err { result ≢ pos 0 → handle.new.state ≡ called_on handle.old.state number }
 {
     code(handle.break_link(alloc, number).err())
 }

@@ -185,6 +185,13 @@ pub const FETCHED: u32 = 2;
 
 pub const DENIED: u32 = 3;
 
+// Where a call of iwarp_fill stopped.
+pub const FILL_ALL: u32 = 0;
+
+pub const FILL_MORE: u32 = 1;
+
+pub const FILL_DENIED: u32 = 2;
+
 // The layer of a fault (RFC 5040 4.8).
 pub const LAYER_RDMAP: u32 = 0;
 

@@ -10,7 +10,7 @@ use Rattle.iw_handle.specs.declared.held.Held.{Held}
 -- a line was made, no stream was opened, and what the number had is put back
 pub undone : (held : Held) (e : EndpointState) (made back : LineTable) (number : ℕ) (before : Option Line) →
     e ≡ held.endpoint → before ≡ place_of held.lines number → made ≡ opened held.lines number → back ≡ with_place made number before →
-    let after : Held = record { endpoint = e; lines = back } in after ≡ held
+    let after : Held = record held { endpoint = e; lines = back } in after ≡ held
 undone held e made back number before same was make undo =
     let lines : back ≡ held.lines = undo ∙ ap (λ ls. with_place ls number before) make ∙ put_back held.lines number before (Some new_line) was in
-    λ i. record { endpoint = same i; lines = lines i }
+    λ i. record held { endpoint = same i; lines = lines i }

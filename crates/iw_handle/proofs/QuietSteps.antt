@@ -71,8 +71,8 @@ module _ (now : Held) (number : ℕ) (step : Step (List ℕ))
   goes quiet = record { may = none; quiet = ap is_quiet_answer (sym is) ∙ quiet }
 
   worked : (lines : LineTable) → lines ≡ lines_by step number now.lines →
-      let after : Held = record { endpoint = e; lines = lines } in after ≡ held_worked now number
-  worked lines kept = let same = kept ∙ sym lines_after-step in λ i. record { endpoint = left i; lines = same i }
+      let after : Held = record now { endpoint = e; lines = lines } in after ≡ held_worked now number
+  worked lines kept = let same = kept ∙ sym lines_after-step in λ i. record now { endpoint = left i; lines = same i }
 
   -- one more quiet step
   module _ (held : Held) (before : ℕ) (came : now ≡ after_steps before held number) (quiet : is_quiet step ≡ true) where
@@ -82,14 +82,14 @@ module _ (now : Held) (number : ℕ) (step : Step (List ℕ))
         let P : ℕ → Type 0 = λ k. GoesQuietly (after_steps k held number) number in
         below_more P before all (subst (λ (h : Held). GoesQuietly h number) came (goes quiet))
 
-    pub one_more : let after : Held = record { endpoint = e; lines = now.lines } in after ≡ after_steps (before + 1) held number
+    pub one_more : let after : Held = record now { endpoint = e; lines = now.lines } in after ≡ after_steps (before + 1) held number
     one_more =
         worked now.lines (sym (lines_by-quiet step number now.lines quiet)) ∙ ap (λ h. held_worked h number) came
         ∙ sym (after_steps-more before held number)
 
   -- the step is told, and what it hands back is kept
   pub works-told : (event : Event) (lines : LineTable) → event ≡ event_of (oldest_token (line_at now.lines number)) step →
-      lines ≡ lines_by step number now.lines → Works now number None event (record { endpoint = e; lines = lines })
+      lines ≡ lines_by step number now.lines → Works now number None event (record now { endpoint = e; lines = lines })
   works-told event lines told kept = record {
     refused = subst (λ o. IfSome o (λ r. let refusal : Option Refusal = None in refusal ≡ Some r)) (sym none) tt;
     memory = subst (λ o. IfNone o (Unit {0})) (sym none) tt;
@@ -107,14 +107,14 @@ pub works-refused : (now : Held) (number : ℕ) (refusal : Refusal) (event : Eve
     IfSome (refusal_to_work now.endpoint number) (λ r. let answer : Answered = Err refusal in answer ≡ Err r) →
     IfNone (refusal_to_work now.endpoint number) (refusal ≡ NoMemory) →
     ((let answer : Answered = Err refusal in answer ≡ Err NoMemory) → TriesAt now.endpoint number) → e ≡ now.endpoint →
-    Works now number (Some refusal) event (record { endpoint = e; lines = now.lines })
+    Works now number (Some refusal) event (record now { endpoint = e; lines = now.lines })
 works-refused now number refusal event e refused memory want same = record {
   refused = same_refusal (refusal_to_work now.endpoint number) refusal refused;
   memory = memory;
   want = λ is. want cc;
   told = λ bad. cc;
   ok = λ bad. cc;
-  err = λ i. record { endpoint = same i; lines = now.lines };
+  err = λ i. record now { endpoint = same i; lines = now.lines };
 }
 
 pub works_on : (most : ℕ) (held : Held) (number before : ℕ) (now : Held) (refusal : Option Refusal) (event : Event) (after : Held) →

@@ -31,6 +31,9 @@ use Rattle.iw_endpoint.specs.declared.refusal.NoSuchStream.{NoSuchStream}
 use Rattle.iw_codes.specs.declared.numbers.TheConstants as numbers
 use Rattle.iw_handle.specs.declared.event.Event.{Event}
 use Rattle.iw_handle.specs.declared.event.Emitted.{Emitted}
+use Rattle.iw_handle.specs.declared.event.Filling.{Filling}
+use Rattle.iw_connection.specs.declared.filling.Filled.{Filled}
+use Rattle.iw_connection.specs.declared.filling.Filled.TheVariants as fills
 use Rattle.iw_handle.specs.declared.event.RegionFacts.{RegionFacts}
 use Rattle.iw_handle.specs.declared.event.Told.{Told}
 
@@ -164,6 +167,27 @@ emitted_of (emissions.Fetched from len stag to n) =
     record none_emitted { kind = numbers.FETCHED; from = from; stag = number_of stag; to = to; n = n }
 emitted_of (emissions.Fault fault) =
     record none_emitted { kind = numbers.DENIED; layer = fault.layer; error = fault.kind; code = fault.code }
+
+-- so much was appended, and nothing more is due
+abbrev none_filled : ℕ → ℕ → Filling
+none_filled frames n = record {
+  kind = numbers.FILL_ALL;
+  layer = 0;
+  error = 0;
+  code = 0;
+  frames = frames;
+  n = n;
+  reserved_0 = 0;
+  reserved_1 = 0;
+  reserved_2 = 0;
+  reserved_3 = 0;
+}
+
+-- where a call of `fill` stopped, which appended n octets in so many frames
+abbrev pub filling_of : Filled → ℕ → ℕ → Filling
+filling_of fills.All frames n = none_filled frames n
+filling_of fills.More frames n = record (none_filled frames n) { kind = numbers.FILL_MORE }
+filling_of (fills.Fault fault) frames n = record (none_filled frames n) { kind = numbers.FILL_DENIED; layer = fault.layer; error = fault.kind; code = fault.code }
 
 -- octets are due
 abbrev pub IsFrame : emission.Emission → Type 0

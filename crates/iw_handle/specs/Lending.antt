@@ -1,8 +1,7 @@
 -- Octets that the program reads to a place that is lent.
 use Rattle.std.specs.Prelude.{◌≡◌, ℕ, false, Option}
 use Rattle.std.specs.Option.{option_map}
-use Rattle.iw_lines.specs.Line.{with_lent}
-use Rattle.iw_lines.specs.Lines.{line_at, with_line}
+use Rattle.iw_lines.specs.Lends.{lent_to, with_lent, without_lent}
 use Rattle.iw_endpoint.specs.Endpoint.{EndpointState, stream_at}
 use Rattle.iw_endpoint.specs.Reading.{Counts, lendable}
 use Rattle.iw_stream.specs.Reading.{room_ahead}
@@ -18,17 +17,18 @@ lendable_at e number want = lendable (stream_at e number) want
 abbrev pub IsFull : EndpointState → ℕ → Type 0
 IsFull e number = let s = stream_at e number in (ended s ≡ false) × (room_ahead s.arrived ≡ 0)
 
--- for how many octets a place was lent last at a stream
+-- for how many octets a place is lent at a stream
 abbrev pub lent_at : Held → ℕ → ℕ
-lent_at held number = (line_at held.lines number).lent
+lent_at held number = lent_to held.lends number
 
 -- a place for n octets is lent
 abbrev pub held_lent : Held → ℕ → ℕ → Held
-held_lent held number n = record held { lines = with_line held.lines number (with_lent (line_at held.lines number) n) }
+held_lent held number n = record held { lends = with_lent held.lends number n }
 
 abbrev pub lent_in : State → ℕ → ℕ → State
 lent_in state number n = option_map (λ held. held_lent held number n) state
 
 -- the n octets that stood in the lent place came, and none is lent any more
 abbrev pub HasTaken : Held → ℕ → ℕ → Held → Type 0
-HasTaken held number n after = Counts held.endpoint after.endpoint number n × (after.lines ≡ (held_lent held number 0).lines)
+HasTaken held number n after =
+    Counts held.endpoint after.endpoint number n × (after.lines ≡ held.lines) × (after.lends ≡ without_lent held.lends number)

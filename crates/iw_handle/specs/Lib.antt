@@ -11,3 +11,4 @@ pub mod Steps
 pub mod Lending
 pub mod Limiting
 pub mod Sending
+pub mod Filling

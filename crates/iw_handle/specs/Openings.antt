@@ -1,6 +1,7 @@
 -- Streams that are opened and closed: each has a line while it is open.
 use Rattle.std.specs.Prelude.{ℕ, List, length, Option, unwrap_or}
 use Rattle.std.specs.Option.{option_map}
+use Rattle.iw_lines.specs.Lends.{without_lent}
 use Rattle.iw_lines.specs.Lines as lines
 use Rattle.iw_endpoint.specs.Endpoint.{EndpointState, next_number, next_refusal, next_shared_refusal, close_refusal, after_close}
 use Rattle.iw_handle.specs.declared.held.Held.{Held}
@@ -32,7 +33,7 @@ refusal_to_close e number = option_map close_reason (close_refusal e number)
 
 -- a stream was opened under this number: nothing waits at it yet
 abbrev pub held_opened : Held → ℕ → (EndpointState → EndpointState) → Held
-held_opened held number change = record { endpoint = change held.endpoint; lines = lines.opened held.lines number }
+held_opened held number change = record held { endpoint = change held.endpoint; lines = lines.opened held.lines number }
 
 abbrev pub opened_in : State → ℕ → (EndpointState → EndpointState) → State
 opened_in state number change = option_map (λ held. held_opened held number change) state
@@ -44,9 +45,13 @@ held_opened_next held change = held_opened held (unwrap_or (next_number held.end
 abbrev pub opened_next_in : State → (EndpointState → EndpointState) → State
 opened_next_in state change = option_map (λ held. held_opened_next held change) state
 
--- a stream was closed: what waited at it is freed
+-- a stream was closed: what waited at it is freed, and no place is lent there
 abbrev pub held_closed : Held → ℕ → Held
-held_closed held number = record { endpoint = after_close held.endpoint number; lines = lines.closed held.lines number }
+held_closed held number = record {
+  endpoint = after_close held.endpoint number;
+  lines = lines.closed held.lines number;
+  lends = without_lent held.lends number;
+}
 
 abbrev pub closed_in : State → ℕ → State
 closed_in state number = option_map (λ held. held_closed held number) state

@@ -11,7 +11,7 @@ use Rattle.iw_handle.specs.State.{State}
 
 -- a message was posted from a buffer, which had these octets; the program knows it by this token
 abbrev pub held_posted_from : Held → ℕ → Request (List ℕ) → ℕ → List ℕ → Held
-held_posted_from held number request token octets = record {
+held_posted_from held number request token octets = record held {
   endpoint = with_request held.endpoint number request;
   lines = with_line held.lines number (with_payload (line_at held.lines number) token octets);
 }

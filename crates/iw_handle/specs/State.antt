@@ -4,6 +4,7 @@ use Rattle.std.specs.Option.{option_map, option_map_or}
 use Rattle.iw_buffer.specs.Octets as buffers
 use Rattle.iw_endpoint.specs.Endpoint.{EndpointState, has_stream}
 use Rattle.iw_handle.specs.declared.held.Held.{Held}
+use Rattle.iw_lines.specs.Lends.{none_lent, without_lent}
 use Rattle.iw_lines.specs.Lines.{no_lines}
 use Rattle.iw_handle.specs.declared.refusal.Refusal.{Refusal}
 use Rattle.iw_handle.specs.declared.refusal.Refusal.TheVariants.{Closed, NoRoom, NoSuchStream, NoBuffer, BufferTooLong}
@@ -12,9 +13,17 @@ use Rattle.iw_handle.specs.declared.refusal.Refusal.TheVariants.{Closed, NoRoom,
 abbrev pub State : Type 0
 State = Option Held
 
--- an endpoint, and nothing waits at its streams
+-- an endpoint, nothing waits at its streams, and no place is lent
 abbrev pub open_with : EndpointState → State
-open_with e = Some (record { endpoint = e; lines = no_lines })
+open_with e = Some (record { endpoint = e; lines = no_lines; lends = none_lent })
+
+-- a place that is lent at a stream is taken back
+abbrev pub held_called : Held → ℕ → Held
+held_called held number = record held { lends = without_lent held.lends number }
+
+-- so a call on that stream finds it
+abbrev pub called_on : State → ℕ → State
+called_on state number = option_map (λ held. held_called held number) state
 
 -- why a call is refused: `Closed` comes before any other refusal
 abbrev pub refusal_in : State → (EndpointState → Option Refusal) → Option Refusal

@@ -113,7 +113,7 @@ lines_after (Err missing) number lines = lines
 
 -- what a step of work leaves
 abbrev pub held_worked : Held → ℕ → Held
-held_worked held number = record {
+held_worked held number = record held {
   endpoint = after_work held.endpoint number;
   lines = lines_after (step_at held.endpoint number) number held.lines;
 }
@@ -174,7 +174,7 @@ read_of request = requests.Read request
 
 -- a message was posted, which the program knows by this token
 abbrev pub held_posted : Held → ℕ → Request (List ℕ) → ℕ → Held
-held_posted held number request token = record {
+held_posted held number request token = record held {
   endpoint = endpoint.with_request held.endpoint number request;
   lines = with_line held.lines number (with_posted (line_at held.lines number) token);
 }

@@ -6,7 +6,7 @@ ghost use Rattle.iw_endpoint.specs.Endpoint.{registered, deregistered, octets_of
 ghost use Rattle.iw_endpoint.specs.Endpoint.{emission_at, emitted_at, after_emit};
 ghost use Rattle.iw_handle.specs.Events.{emitted_of, IsFrame};
 ghost use Rattle.iw_handle.specs.Regions.{region_refusal, refusal_to_register};
-ghost use Rattle.iw_handle.specs.State.{refusal_with, changed, told_in, shown_in};
+ghost use Rattle.iw_handle.specs.State.{called_on, refusal_with, changed, told_in, shown_in};
 ghost use Rattle.iw_handle.specs.Streams.{refusal_to_go_on};
 ghost use Rattle.iw_handle.specs.Words.{rights_of};
 
@@ -174,21 +174,21 @@ impl Handle {
         number: u32,
         buffer: &mut Buffer,
     ) -> Result<Emitted, Refusal>
-        ensures refused { IfSome (refusal_with self.old.state buffer.old.state (λ e octets. refusal_to_go_on e number))
+        ensures refused { IfSome (refusal_with (called_on self.old.state number) buffer.old.state (λ e octets. refusal_to_go_on e number))
             (λ r. result ≡ Err r) }
-        ensures memory { IfNone (refusal_with self.old.state buffer.old.state (λ e octets. refusal_to_go_on e number))
+        ensures memory { IfNone (refusal_with (called_on self.old.state number) buffer.old.state (λ e octets. refusal_to_go_on e number))
             (IfErr result (λ e. e ≡ Refusal.NoMemory)) }
-        ensures want { result ≡ Err Refusal.NoMemory → IfSome self.old.state
+        ensures want { result ≡ Err Refusal.NoMemory → IfSome (called_on self.old.state number)
             (λ held. IsFrame (emission_at held.endpoint number)) }
         ensures emitted { IfOk result
-            (λ emitted. Some emitted ≡ told_in self.old.state (λ e. emitted_of (emission_at e number))) }
+            (λ emitted. Some emitted ≡ told_in (called_on self.old.state number) (λ e. emitted_of (emission_at e number))) }
         ensures octets { OnOk result (IfSome buffer.old.state (λ octets.
-            buffer.new.state ≡ told_in self.old.state (λ e. octets ++ emitted_at e number))) }
-        ensures ok { OnOk result (self.new.state ≡ changed self.old.state (λ e. after_emit e number)) }
-        ensures err { OnErr result (self.new.state ≡ self.old.state) }
+            buffer.new.state ≡ told_in (called_on self.old.state number) (λ e. octets ++ emitted_at e number))) }
+        ensures ok { OnOk result (self.new.state ≡ changed (called_on self.old.state number) (λ e. after_emit e number)) }
+        ensures err { OnErr result (self.new.state ≡ called_on self.old.state number) }
         ensures back { OnErr result (buffer.new.state ≡ buffer.old.state) }
     {
-        let Some(mut held) = self.take(alloc) else {
+        let Some(mut held) = self.take_on(alloc, number) else {
             return Err(Refusal::Closed);
         };
         let Some(mut lent) = buffer.take_vec(alloc) else {

@@ -3,7 +3,7 @@ ghost use Rattle.std.specs.Prelude.{◌≡◌, None, Some, length, IfSome, IfNon
 ghost use Rattle.std.specs.Result.{result_err};
 ghost use Rattle.iw_endpoint.specs.Endpoint.{emission_at, emitted_at, after_emit};
 ghost use Rattle.iw_handle.specs.Events.{emitted_of, IsFrame};
-ghost use Rattle.iw_handle.specs.State.{refusal_in, changed, told_in, shown_in, stream_refusal, filled, length_told};
+ghost use Rattle.iw_handle.specs.State.{called_on, refusal_in, changed, told_in, shown_in, stream_refusal, filled, length_told};
 ghost use Rattle.iw_handle.specs.Streams.{refusal_to_emit, refusal_to_go_on, due_shown, wants_write, progress_at};
 
 use crate::event::{Emitted, Progress, emitted_of};
@@ -137,21 +137,21 @@ impl Handle {
         out: &mut [u8],
         len: &mut usize,
     ) -> Result<Emitted, Refusal>
-        ensures refused { IfSome (refusal_in self.old.state (λ e. refusal_to_emit e number (length out.old)))
+        ensures refused { IfSome (refusal_in (called_on self.old.state number) (λ e. refusal_to_emit e number (length out.old)))
             (λ r. result ≡ Err r) }
-        ensures memory { IfNone (refusal_in self.old.state (λ e. refusal_to_emit e number (length out.old)))
+        ensures memory { IfNone (refusal_in (called_on self.old.state number) (λ e. refusal_to_emit e number (length out.old)))
             (IfErr result (λ e. e ≡ Refusal.NoMemory)) }
-        ensures want { result ≡ Err Refusal.NoMemory → IfSome self.old.state
+        ensures want { result ≡ Err Refusal.NoMemory → IfSome (called_on self.old.state number)
             (λ held. IsFrame (emission_at held.endpoint number)) }
-        ensures len { len.new ≡ length_told (shown_in self.old.state (λ e. due_shown e number)) len.old }
+        ensures len { len.new ≡ length_told (shown_in (called_on self.old.state number) (λ e. due_shown e number)) len.old }
         ensures emitted { IfOk result
-            (λ emitted. Some emitted ≡ told_in self.old.state (λ e. emitted_of (emission_at e number))) }
-        ensures octets { OnOk result (out.new ≡ filled (shown_in self.old.state (λ e. due_shown e number)) out.old) }
+            (λ emitted. Some emitted ≡ told_in (called_on self.old.state number) (λ e. emitted_of (emission_at e number))) }
+        ensures octets { OnOk result (out.new ≡ filled (shown_in (called_on self.old.state number) (λ e. due_shown e number)) out.old) }
         ensures kept { OnErr result (out.new ≡ out.old) }
-        ensures ok { OnOk result (self.new.state ≡ changed self.old.state (λ e. after_emit e number)) }
-        ensures err { OnErr result (self.new.state ≡ self.old.state) }
+        ensures ok { OnOk result (self.new.state ≡ changed (called_on self.old.state number) (λ e. after_emit e number)) }
+        ensures err { OnErr result (self.new.state ≡ called_on self.old.state number) }
     {
-        let Some(mut held) = self.take(alloc) else {
+        let Some(mut held) = self.take_on(alloc, number) else {
             return Err(Refusal::Closed);
         };
         let done = emit(&mut held.endpoint, alloc, number, out, len);

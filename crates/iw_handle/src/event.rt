@@ -3,10 +3,11 @@ ghost use Rattle.std.specs.Prelude.{◌≡◌, ◌≤◌};
 ghost use Rattle.iw_handle.specs.Events.{kind_number, right_number, startup_number, stag_number};
 ghost use Rattle.iw_handle.specs.Events.{flag, agreed_flags, received_flags, rights_number, kept_number};
 ghost use Rattle.iw_handle.specs.Events.{no_event, message_event, fault_event, received_event, event_of};
-ghost use Rattle.iw_handle.specs.Events.{emitted_of, facts_of, rtr_flag, word_told, peer_told, state_number};
+ghost use Rattle.iw_handle.specs.Events.{emitted_of, filling_of, facts_of, rtr_flag, word_told, peer_told, state_number};
 ghost use Rattle.iw_handle.specs.Steps.{is_quiet};
 
 use iw_codes::numbers;
+use iw_connection::Filled;
 use iw_endpoint::{
     Agreed, Delivery, Emission, EnhancedData, Facts, Fault, Kind, Octets, PeerOptions, Right,
     Rights, Stag, Standing, StartupFault, Step,
@@ -50,6 +51,24 @@ pub struct Emitted {
     pub code: u32,
     pub from: u64,
     pub to: u64,
+    pub n: u64,
+    pub reserved_0: u64,
+    pub reserved_1: u64,
+    pub reserved_2: u64,
+    pub reserved_3: u64,
+}
+
+/// What a call of `fill` did. Fields that have no meaning for its `kind` are 0, and so are those that are reserved.
+#[repr(C)]
+#[derive(Clone, Copy)]
+pub struct Filling {
+    pub kind: u32,
+    pub layer: u32,
+    pub error: u32,
+    pub code: u32,
+    /// How many frames were appended.
+    pub frames: u64,
+    /// How many octets they have.
     pub n: u64,
     pub reserved_0: u64,
     pub reserved_1: u64,
@@ -141,6 +160,19 @@ const NOTHING: Emitted = Emitted {
     code: 0,
     from: 0,
     to: 0,
+    n: 0,
+    reserved_0: 0,
+    reserved_1: 0,
+    reserved_2: 0,
+    reserved_3: 0,
+};
+
+const NOTHING_FILLED: Filling = Filling {
+    kind: numbers::FILL_ALL,
+    layer: 0,
+    error: 0,
+    code: 0,
+    frames: 0,
     n: 0,
     reserved_0: 0,
     reserved_1: 0,
@@ -443,6 +475,31 @@ pub fn emitted_of(emission: Emission) -> Emitted
             error: fault.kind.into(),
             code: fault.code.into(),
             ..NOTHING
+        },
+    }
+}
+
+/// What a call of `fill` did, in numbers: it appended `n` octets, in so many frames.
+pub fn filling_of(filled: Filled, frames: u64, n: u64) -> Filling
+    ensures { result ≡ filling_of filled frames n }
+{
+    let told = Filling {
+        frames,
+        n,
+        ..NOTHING_FILLED
+    };
+    match filled {
+        Filled::All => told,
+        Filled::More => Filling {
+            kind: numbers::FILL_MORE,
+            ..told
+        },
+        Filled::Fault(fault) => Filling {
+            kind: numbers::FILL_DENIED,
+            layer: fault.layer.into(),
+            error: fault.kind.into(),
+            code: fault.code.into(),
+            ..told
         },
     }
 }

@@ -25,6 +25,8 @@ impl Model for Handle {
 }
 
 impl Handle {
+    ghost use Rattle.iw_handle.specs.State.{called_on};
+
     /// A handle with no endpoint.
     pub fn closed(alloc: Global) -> Handle
         ensures { result.state ≡ None }
@@ -42,6 +44,20 @@ impl Handle {
     {
         let handle = std::mem::replace(self, Handle::closed(alloc));
         handle.into_held()
+    }
+
+    // The same for a call on a stream: a place that is lent there is taken back.
+    pub(crate) fn take_on(&mut self, alloc: Global, number: u32) -> Option<Box<Held>>
+        ensures held { option_map (λ b. b.value) result ≡ called_on self.old.state number }
+        ensures closed { self.new.state ≡ None }
+    {
+        match self.take(alloc) {
+            Some(mut held) => {
+                held.lends.take_back(number);
+                Some(held)
+            }
+            None => None,
+        }
     }
 
     // Replaces what the handle has.

@@ -1,13 +1,14 @@
 // Octets that the program reads to a place that is lent.
 ghost use Rattle.std.specs.Prelude.{◌≡◌, ◌⊎◌, ◌<◌, IfSome, IfNone, IfOk, IfErr, OnOk, OnErr, IsSomeAnd, Some};
 ghost use Rattle.iw_handle.specs.Lending.{lendable_at, IsFull, lent_at, held_lent, lent_in, HasTaken};
-ghost use Rattle.iw_handle.specs.State.{refusal_in, told_in, stream_refusal};
+ghost use Rattle.iw_handle.specs.State.{called_on, refusal_in, told_in, stream_refusal};
 
 use crate::handle::Handle;
 use crate::held::Held;
 use crate::refusal::Refusal;
 use iw_endpoint::{CallRefusal, Endpoint, PlaceRefusal};
 use std::alloc::Global;
+use std::ptr::null_mut;
 
 // Lends the place past the last octet that came.
 fn lend_place(
@@ -42,13 +43,13 @@ fn room(held: &mut Held, number: u32, want: usize, at: &mut *mut u8) -> Result<u
     ensures ok { IfOk result (λ n. held.new ≡ held_lent held.old number n) }
     ensures err { OnErr result (held.new ≡ held.old) }
 {
-    match lend_place(&mut held.endpoint, number, want, at) {
-        Ok(n) => {
-            held.lines.lend(number, n);
-            Ok(n)
-        }
-        Err(refusal) => Err(refusal),
-    }
+    let mut place = null_mut();
+    let n = lend_place(&mut held.endpoint, number, want, &mut place)?;
+    let Ok(()) = held.lends.lend(number, n) else {
+        return Err(Refusal::NoMemory);
+    };
+    *at = place;
+    Ok(n)
 }
 
 fn came(held: &mut Held, number: u32, n: usize) -> Result<(), Refusal>
@@ -62,12 +63,12 @@ fn came(held: &mut Held, number: u32, n: usize) -> Result<(), Refusal>
     if held.endpoint.standing(number).is_err() {
         return Err(Refusal::NoSuchStream);
     }
-    if held.lines.lent(number) < n {
+    if held.lends.lent(number) < n {
         return Err(Refusal::NotLent);
     }
     match held.endpoint.came(number, n) {
         Ok(true) => {
-            held.lines.lend(number, 0);
+            held.lends.take_back(number);
             Ok(())
         }
         _ => Err(Refusal::NotLent),
@@ -76,11 +77,15 @@ fn came(held: &mut Held, number: u32, n: usize) -> Result<(), Refusal>
 
 impl Handle {
     /// Lends the place past the last octet that came at a stream ([`Endpoint::lend_place`]): `at` becomes the address at
-    /// which octets from the connection may be written until the next call on the handle, and the result says for how many
-    /// there is room, `want` at most. No clause says which address it is.
+    /// which octets from the connection may be written until the next call on this stream, and the result says for how many
+    /// there is room, `want` at most. No clause says which address it is. Places may be lent at many streams at once.
+    ///
+    /// The place is taken back, whatever they answer, by this call, which may lend another, and by `accept`, `reject`, `deliver`,
+    /// `work`, `work_on`, `emit`, `emit_onto`, `fill` and `break_link` on this stream: they may move or free what came. It stays
+    /// lent over calls that post or fetch something or only tell something, and over those on other streams.
     ///
     /// A stream that has ended lends a place too; what comes there is dropped. `WindowFull`: the stream runs, and its window
-    /// has no room before [`Handle::work`] makes some. An `Err` writes nothing, and nothing changes.
+    /// has no room before [`Handle::work`] makes some. An `Err` writes nothing, and changes nothing else.
     pub fn room(
         &mut self,
         alloc: Global,
@@ -88,16 +93,16 @@ impl Handle {
         want: usize,
         at: &mut *mut u8,
     ) -> Result<usize, Refusal>
-        ensures refused { IfSome (refusal_in self.old.state (λ e. stream_refusal e number)) (λ r. result ≡ Err r) }
-        ensures why { IfNone (refusal_in self.old.state (λ e. stream_refusal e number))
+        ensures refused { IfSome (refusal_in (called_on self.old.state number) (λ e. stream_refusal e number)) (λ r. result ≡ Err r) }
+        ensures why { IfNone (refusal_in (called_on self.old.state number) (λ e. stream_refusal e number))
             (IfErr result (λ e. (e ≡ Refusal.WindowFull) ⊎ (e ≡ Refusal.NoMemory))) }
-        ensures full { result ≡ Err Refusal.WindowFull → IfSome self.old.state (λ held. IsFull held.endpoint number) }
-        ensures lent { IfOk result (λ n. Some n ≡ told_in self.old.state (λ e. lendable_at e number want)) }
+        ensures full { result ≡ Err Refusal.WindowFull → IfSome (called_on self.old.state number) (λ held. IsFull held.endpoint number) }
+        ensures lent { IfOk result (λ n. Some n ≡ told_in (called_on self.old.state number) (λ e. lendable_at e number want)) }
         ensures kept { OnErr result (at.new ≡ at.old) }
-        ensures ok { IfOk result (λ n. self.new.state ≡ lent_in self.old.state number n) }
-        ensures err { OnErr result (self.new.state ≡ self.old.state) }
+        ensures ok { IfOk result (λ n. self.new.state ≡ lent_in (called_on self.old.state number) number n) }
+        ensures err { OnErr result (self.new.state ≡ called_on self.old.state number) }
     {
-        let Some(mut held) = self.take(alloc) else {
+        let Some(mut held) = self.take_on(alloc, number) else {
             return Err(Refusal::Closed);
         };
         let done = room(&mut held, number, want, at);
@@ -106,8 +111,8 @@ impl Handle {
     }
 
     /// Takes the first `n` octets that stand in the place that was lent last as one delivery, past the last octet that came
-    /// ([`Endpoint::came`]). Then no place is lent. `NotLent`: `n` is 0, or more than were lent, or the place is lost, since
-    /// octets were delivered after it was lent. An `Err` changes nothing.
+    /// ([`Endpoint::came`]). Then no place is lent. `NotLent`: `n` is 0, or more than are lent; none are if the place was taken
+    /// back. An `Err` changes nothing.
     pub fn came(&mut self, alloc: Global, number: u32, n: usize) -> Result<(), Refusal>
         ensures refused { IfSome (refusal_in self.old.state (λ e. stream_refusal e number)) (λ r. result ≡ Err r) }
         ensures more { IfSome self.old.state (λ held. IfNone (stream_refusal held.endpoint number)

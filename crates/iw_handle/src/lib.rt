@@ -6,6 +6,7 @@ mod buffers;
 mod copying;
 mod emitting;
 mod event;
+mod filling;
 mod handle;
 mod held;
 mod laws;
@@ -25,8 +26,8 @@ mod words;
 mod working;
 
 pub use event::{
-    Emitted, Event, NO_EVENT, Progress, RegionFacts, Told, agreed_flags, emitted_of, event_of,
-    facts_of, kept_number, peer_told, state_number,
+    Emitted, Event, Filling, NO_EVENT, Progress, RegionFacts, Told, agreed_flags, emitted_of,
+    event_of, facts_of, filling_of, kept_number, peer_told, state_number,
 };
 pub use handle::Handle;
 pub use held::Held;

@@ -10,7 +10,7 @@ use crate::handle::Handle;
 use crate::held::Held;
 use crate::refusal::{Refusal, domain_reason};
 use iw_endpoint::Endpoint;
-use iw_lines::Lines;
+use iw_lines::{Lends, Lines};
 use std::alloc::{AllocError, Global};
 
 // What a new handle has.
@@ -19,7 +19,13 @@ fn fresh(alloc: Global) -> Result<Box<Held>, AllocError>
 {
     let endpoint = Endpoint::new(alloc);
     let lines = Lines::new(alloc);
-    let held = Box::new(alloc, Held { endpoint, lines })?;
+    let lends = Lends::new(alloc);
+    let held = Held {
+        endpoint,
+        lines,
+        lends,
+    };
+    let held = Box::new(alloc, held)?;
     Ok(held)
 }
 

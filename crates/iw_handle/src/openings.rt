@@ -210,6 +210,7 @@ fn close_stream(held: &mut Held, number: u32) -> Result<(), Refusal>
     match held.endpoint.close(number) {
         Ok(()) => {
             held.lines.close(number);
+            held.lends.take_back(number);
             Ok(())
         }
         Err(refusal) => Err(close_reason(refusal)),

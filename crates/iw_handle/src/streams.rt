@@ -4,7 +4,7 @@ ghost use Rattle.std.specs.Result.{result_err};
 ghost use Rattle.iw_endpoint.specs.Endpoint.{opened, accepted, rejected, agreement, broken, with_mulpdu, told_at, options_at, standing_at};
 ghost use Rattle.iw_handle.specs.Events.{peer_told};
 ghost use Rattle.iw_handle.specs.Openings.{held_opened, opened_in};
-ghost use Rattle.iw_handle.specs.State.{refusal_in, changed, told_in, shown_in, stream_refusal};
+ghost use Rattle.iw_handle.specs.State.{called_on, refusal_in, changed, told_in, shown_in, stream_refusal};
 ghost use Rattle.iw_handle.specs.State.{copy_refusal, filled, length_told};
 ghost use Rattle.iw_handle.specs.Streams.{refusal_to_open, refusal_to_answer, size_refusal, private_shown};
 ghost use Rattle.iw_handle.specs.Words.{role_in, config_of, private_of};
@@ -149,14 +149,14 @@ impl Handle {
     /// Accepts the pending MPA Request, with this private data in the Reply ([`Endpoint::accept`]). An `Err` changes
     /// nothing.
     pub fn accept(&mut self, alloc: Global, number: u32, private: &[u8]) -> Result<Agreed, Refusal>
-        ensures refused { result_err result ≡ refusal_in self.old.state
+        ensures refused { result_err result ≡ refusal_in (called_on self.old.state number)
             (λ e. refusal_to_answer e number private.now) }
-        ensures agreed { IfOk result (λ agreed. Some agreed ≡ told_in self.old.state (λ e. agreement e number)) }
+        ensures agreed { IfOk result (λ agreed. Some agreed ≡ told_in (called_on self.old.state number) (λ e. agreement e number)) }
         ensures ok { OnOk result
-            (self.new.state ≡ changed self.old.state (λ e. accepted e number (private_of private.now))) }
-        ensures err { OnErr result (self.new.state ≡ self.old.state) }
+            (self.new.state ≡ changed (called_on self.old.state number) (λ e. accepted e number (private_of private.now))) }
+        ensures err { OnErr result (self.new.state ≡ called_on self.old.state number) }
     {
-        let Some(mut held) = self.take(alloc) else {
+        let Some(mut held) = self.take_on(alloc, number) else {
             return Err(Refusal::Closed);
         };
         let done = accept(&mut held.endpoint, number, private);
@@ -167,13 +167,13 @@ impl Handle {
     /// Rejects the pending MPA Request, with this private data in the Reply. The stream has then ended. An `Err`
     /// changes nothing.
     pub fn reject(&mut self, alloc: Global, number: u32, private: &[u8]) -> Result<(), Refusal>
-        ensures refused { result_err result ≡ refusal_in self.old.state
+        ensures refused { result_err result ≡ refusal_in (called_on self.old.state number)
             (λ e. refusal_to_answer e number private.now) }
         ensures ok { OnOk result
-            (self.new.state ≡ changed self.old.state (λ e. rejected e number (private_of private.now))) }
-        ensures err { OnErr result (self.new.state ≡ self.old.state) }
+            (self.new.state ≡ changed (called_on self.old.state number) (λ e. rejected e number (private_of private.now))) }
+        ensures err { OnErr result (self.new.state ≡ called_on self.old.state number) }
     {
-        let Some(mut held) = self.take(alloc) else {
+        let Some(mut held) = self.take_on(alloc, number) else {
             return Err(Refusal::Closed);
         };
         let done = reject(&mut held.endpoint, number, private);
@@ -237,11 +237,11 @@ impl Handle {
 
     /// Reports that a stream's link broke: the stream has ended, and nothing more is emitted. An `Err` changes nothing.
     pub fn break_link(&mut self, alloc: Global, number: u32) -> Result<(), Refusal>
-        ensures refused { result_err result ≡ refusal_in self.old.state (λ e. stream_refusal e number) }
-        ensures ok { OnOk result (self.new.state ≡ changed self.old.state (λ e. broken e number)) }
-        ensures err { OnErr result (self.new.state ≡ self.old.state) }
+        ensures refused { result_err result ≡ refusal_in (called_on self.old.state number) (λ e. stream_refusal e number) }
+        ensures ok { OnOk result (self.new.state ≡ changed (called_on self.old.state number) (λ e. broken e number)) }
+        ensures err { OnErr result (self.new.state ≡ called_on self.old.state number) }
     {
-        let Some(mut held) = self.take(alloc) else {
+        let Some(mut held) = self.take_on(alloc, number) else {
             return Err(Refusal::Closed);
         };
         let done = held.endpoint.break_link(number);

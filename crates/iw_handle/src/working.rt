@@ -4,8 +4,10 @@ ghost use Rattle.std.specs.Option.{option_map};
 ghost use Rattle.std.specs.Result.{result_err};
 ghost use Rattle.iw_endpoint.specs.Endpoint.{with_first, delivery_at, after_deliver, step_at, after_work};
 ghost use Rattle.iw_lines.specs.Handed.{told_of};
+ghost use Rattle.iw_lines.specs.Line.{oldest_token};
 ghost use Rattle.iw_lines.specs.Lines.{line_at};
-ghost use Rattle.iw_handle.specs.State.{refusal_in, changed, told_in, stream_refusal};
+ghost use Rattle.iw_handle.specs.Events.{event_of};
+ghost use Rattle.iw_handle.specs.State.{called_on, refusal_in, changed, told_in, stream_refusal};
 ghost use Rattle.iw_handle.specs.State.{copy_refusal, filled, length_told};
 ghost use Rattle.iw_handle.specs.Streams.{first_refusal, refusal_to_work, BringsAt, TriesAt, handed_in, fetched};
 ghost use Rattle.iw_handle.specs.Streams.{lines_by, held_worked, worked, event_in};
@@ -67,6 +69,29 @@ fn keep(step: Step<Octets>, number: u32, lines: &mut Lines)
     }
 }
 
+// The token of the message that a step tells of, which is looked up only for such a step; 0 for others.
+#[inline(always)]
+fn token_of(step: &Step<Octets>, number: u32, lines: &Lines) -> u64
+    ensures { event_of result step.now ≡ event_of (oldest_token (line_at lines.now number)) step.now }
+{
+    match step {
+        Step::Done(_) | Step::Flushed(_) => lines.oldest(number),
+        Step::Received { .. }
+        | Step::FlushedRecv(_)
+        | Step::Asked
+        | Step::Opened(_)
+        | Step::Closed(_)
+        | Step::Placed { .. }
+        | Step::Buffered { .. }
+        | Step::Requested { .. }
+        | Step::Tried(_)
+        | Step::Passed
+        | Step::Terminated(_)
+        | Step::Fault(_)
+        | Step::Idle => 0,
+    }
+}
+
 // Does one step at an endpoint.
 #[inline(always)]
 fn step(endpoint: &mut Endpoint, number: u32) -> Result<Step<Octets>, Refusal>
@@ -101,7 +126,7 @@ fn steps(held: &mut Held, number: u32, most: u32, event: &mut Event) -> Result<(
         match step(&mut held.endpoint, number) {
             Ok(step) if before < most && is_quiet(&step) => before += 1,
             Ok(step) => {
-                *event = event_of(held.lines.oldest(number), &step);
+                *event = event_of(token_of(&step, number, &held.lines), &step);
                 keep(step, number, &mut held.lines);
                 return Ok(());
             }
@@ -173,18 +198,18 @@ impl Handle {
         sequence: u32,
         octets: &[u8],
     ) -> Result<Delivery, Refusal>
-        ensures refused { IfSome (refusal_in self.old.state (λ e. stream_refusal e number)) (λ r. result ≡ Err r) }
-        ensures memory { IfNone (refusal_in self.old.state (λ e. stream_refusal e number))
+        ensures refused { IfSome (refusal_in (called_on self.old.state number) (λ e. stream_refusal e number)) (λ r. result ≡ Err r) }
+        ensures memory { IfNone (refusal_in (called_on self.old.state number) (λ e. stream_refusal e number))
             (IfErr result (λ e. e ≡ Refusal.NoMemory)) }
-        ensures want { IfSome self.old.state (λ held. IfNone (stream_refusal held.endpoint number)
+        ensures want { IfSome (called_on self.old.state number) (λ held. IfNone (stream_refusal held.endpoint number)
             (OnErr result (BringsAt held.endpoint number sequence (length octets.now)))) }
         ensures delivery { IfOk result
-            (λ delivery. Some delivery ≡ told_in self.old.state (λ e. delivery_at e number sequence (length octets.now))) }
+            (λ delivery. Some delivery ≡ told_in (called_on self.old.state number) (λ e. delivery_at e number sequence (length octets.now))) }
         ensures ok { OnOk result
-            (self.new.state ≡ changed self.old.state (λ e. after_deliver e number sequence octets.now)) }
-        ensures err { OnErr result (self.new.state ≡ self.old.state) }
+            (self.new.state ≡ changed (called_on self.old.state number) (λ e. after_deliver e number sequence octets.now)) }
+        ensures err { OnErr result (self.new.state ≡ called_on self.old.state number) }
     {
-        let Some(mut held) = self.take(alloc) else {
+        let Some(mut held) = self.take_on(alloc, number) else {
             return Err(Refusal::Closed);
         };
         let done = deliver(&mut held.endpoint, number, sequence, octets);
@@ -198,16 +223,16 @@ impl Handle {
     /// changes nothing. `TooFar` comes if the in-order point is past 2^62; `NoMemory` only if no other refusal applies
     /// and a frame is judged before its turn.
     pub fn work(&mut self, alloc: Global, number: u32, event: &mut Event) -> Result<(), Refusal>
-        ensures refused { IfSome (refusal_in self.old.state (λ e. refusal_to_work e number)) (λ r. result ≡ Err r) }
-        ensures memory { IfNone (refusal_in self.old.state (λ e. refusal_to_work e number))
+        ensures refused { IfSome (refusal_in (called_on self.old.state number) (λ e. refusal_to_work e number)) (λ r. result ≡ Err r) }
+        ensures memory { IfNone (refusal_in (called_on self.old.state number) (λ e. refusal_to_work e number))
             (IfErr result (λ e. e ≡ Refusal.NoMemory)) }
-        ensures want { result ≡ Err Refusal.NoMemory → IfSome self.old.state (λ held. TriesAt held.endpoint number) }
-        ensures event { OnOk result (Some event.new ≡ option_map (λ held. event_in held number) self.old.state) }
+        ensures want { result ≡ Err Refusal.NoMemory → IfSome (called_on self.old.state number) (λ held. TriesAt held.endpoint number) }
+        ensures event { OnOk result (Some event.new ≡ option_map (λ held. event_in held number) (called_on self.old.state number)) }
         ensures kept { OnErr result (event.new ≡ event.old) }
-        ensures ok { OnOk result (self.new.state ≡ worked self.old.state number) }
-        ensures err { OnErr result (self.new.state ≡ self.old.state) }
+        ensures ok { OnOk result (self.new.state ≡ worked (called_on self.old.state number) number) }
+        ensures err { OnErr result (self.new.state ≡ called_on self.old.state number) }
     {
-        let Some(mut held) = self.take(alloc) else {
+        let Some(mut held) = self.take_on(alloc, number) else {
             return Err(Refusal::Closed);
         };
         let done = work(&mut held, number, event);
@@ -220,12 +245,12 @@ impl Handle {
     /// one of them is reported only if it is the 4,096th. An `Err` leaves the steps before it done, and changes nothing
     /// else.
     pub fn work_on(&mut self, alloc: Global, number: u32, event: &mut Event) -> Result<(), Refusal>
-        ensures closed { self.old.state ≡ None → (result ≡ Err Refusal.Closed) × (self.new.state ≡ None) }
-        ensures steps { IfSome self.old.state (λ held. IsSomeAnd self.new.state
+        ensures closed { (called_on self.old.state number) ≡ None → (result ≡ Err Refusal.Closed) × (self.new.state ≡ None) }
+        ensures steps { IfSome (called_on self.old.state number) (λ held. IsSomeAnd self.new.state
             (λ after. WorksOn QUIET_STEPS held number (result_err result) event.new after)) }
         ensures kept { OnErr result (event.new ≡ event.old) }
     {
-        let Some(mut held) = self.take(alloc) else {
+        let Some(mut held) = self.take_on(alloc, number) else {
             return Err(Refusal::Closed);
         };
         let done = steps(&mut held, number, QUIET_STEPS, event);

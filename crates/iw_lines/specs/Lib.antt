@@ -1,3 +1,4 @@
 pub mod Handed
 pub mod Line
 pub mod Lines
+pub mod Lends

@@ -1,16 +1,14 @@
 -- What waits at one stream.
 use Rattle.std.specs.Prelude.{ℕ, Bool, true, false, List, [], ◌∷◌, ◌++◌, length, drop, nat_lt, slice_index_or, if◌then◌else◌}
-use Rattle.arrayvec.specs.ArrayVec.{ArrayVec}
 use Rattle.iw_lines.specs.declared.handed.Handed.{Handed}
 use Rattle.iw_lines.specs.declared.line.Line.{Line}
 use Rattle.iw_lines.specs.Handed.{nothing_handed}
 
--- nothing was handed back, nothing is posted, and no place is lent
+-- nothing was handed back, and nothing is posted
 abbrev pub new_line : Line
 new_line = record {
   handed = nothing_handed;
   tokens = record { items = [] };
-  lent = 0;
   from_buffer = record { items = [] };
   payloads = [];
   sent = [];
@@ -79,7 +77,3 @@ abbrev pub without_oldest : Line → Line
 without_oldest line =
     let rest = without_flag (without_token line) in
     if is_from_buffer line then with_sent (without_payload rest) (oldest_payload line) else with_sent rest []
-
--- a place for n octets is lent
-abbrev pub with_lent : Line → ℕ → Line
-with_lent line n = record line { lent = n }

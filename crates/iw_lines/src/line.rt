@@ -1,5 +1,5 @@
 ghost use Rattle.std.specs.Prelude.{◌≡◌, [], OnOk, OnErr};
-ghost use Rattle.iw_lines.specs.Line.{new_line, with_handed, with_token, with_payload, oldest_token, without_oldest, with_lent, with_sent};
+ghost use Rattle.iw_lines.specs.Line.{new_line, with_handed, with_token, with_payload, oldest_token, without_oldest, with_sent};
 ghost use Rattle.iw_lines.specs.Line.{with_posted, without_token, with_flag, with_octets, is_from_buffer, without_flag, without_payload, oldest_payload};
 ghost use Rattle.iw_lines.specs.Handed.{nothing_handed};
 
@@ -21,8 +21,6 @@ pub struct Line {
     pub handed: Handed,
     /// The tokens of the messages that are posted and not yet told to be done or flushed, oldest first.
     pub tokens: ArrayVec<u64, MAX_TOKENS>,
-    /// For how many octets a place to read to was lent last, if none of them were counted yet.
-    pub lent: usize,
     /// Which of those messages were posted from a buffer.
     pub from_buffer: ArrayVec<bool, MAX_TOKENS>,
     /// The octets of those that were, oldest first.
@@ -38,7 +36,6 @@ impl Line {
         Line {
             handed: Handed::nothing(alloc),
             tokens: ArrayVec::new(),
-            lent: 0,
             from_buffer: ArrayVec::new(),
             payloads: LinkedList::new(alloc),
             sent: Bytes::new(),
@@ -113,13 +110,6 @@ impl Line {
             Some(token) => *token,
             None => 0,
         }
-    }
-
-    /// A place for `n` octets is lent.
-    pub(crate) fn lend(&mut self, n: usize)
-        ensures { self.new ≡ with_lent self.old n }
-    {
-        self.lent = n;
     }
 
     // Takes out whether the oldest message was posted from a buffer.

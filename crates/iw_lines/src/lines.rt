@@ -29,7 +29,7 @@ impl Model for Lines {
 
 impl Lines {
     ghost use Rattle.iw_lines.specs.Handed.{nothing_handed, told_of};
-    ghost use Rattle.iw_lines.specs.Line.{with_handed, with_posted, with_payload, oldest_token, without_oldest, with_lent, with_sent};
+    ghost use Rattle.iw_lines.specs.Line.{with_handed, with_posted, with_payload, oldest_token, without_oldest, with_sent};
     ghost use Rattle.iw_lines.specs.Lines.{no_lines, opened, closed, place_of, with_place, line_at, with_line};
 
     /// No stream has a line. It takes no memory.
@@ -187,25 +187,5 @@ impl Lines {
             return;
         };
         place.pop();
-    }
-
-    /// Keeps for how many octets a place to read to was lent at a stream; 0 once they were counted.
-    pub fn lend(&mut self, number: u32, n: usize)
-        ensures { self.new ≡ with_line self.old number (with_lent (line_at self.old number) n) }
-    {
-        let Some(place) = self.places.get_mut(&number) else {
-            return;
-        };
-        place.lend(n);
-    }
-
-    /// For how many octets a place was lent last at a stream; 0 if none is.
-    pub fn lent(&self, number: u32) -> usize
-        ensures { result ≡ (line_at self.now number).lent }
-    {
-        match self.places.get(&number) {
-            Some(place) => place.lent(),
-            None => 0,
-        }
     }
 }

@@ -1,5 +1,5 @@
 ghost use Rattle.std.specs.Prelude.{◌≡◌, [], IfOk, OnOk, OnErr};
-ghost use Rattle.iw_lines.specs.Line.{new_line, with_handed, with_posted, with_payload, oldest_token, without_oldest, with_lent, with_sent};
+ghost use Rattle.iw_lines.specs.Line.{new_line, with_handed, with_posted, with_payload, oldest_token, without_oldest, with_sent};
 ghost use Rattle.iw_lines.specs.Handed.{nothing_handed, told_of};
 
 use crate::handed::Handed;
@@ -82,18 +82,6 @@ impl Place {
         ensures { result ≡ oldest_token self.now }
     {
         self.line.oldest()
-    }
-
-    pub(crate) fn lend(&mut self, n: usize)
-        ensures { self.new ≡ with_lent self.old n }
-    {
-        self.line.lend(n);
-    }
-
-    pub(crate) fn lent(&self) -> usize
-        ensures { result ≡ self.now.lent }
-    {
-        self.line.as_ref().lent
     }
 
     pub(crate) fn pop(&mut self)

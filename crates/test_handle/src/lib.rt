@@ -1,10 +1,12 @@
-//! Tests of handles, called as C calls them: two of them joined in memory, buffers, streams that are closed, places that are lent, and what is refused.
+//! Tests of handles, called as C calls them: two of them joined in memory, buffers that change hands or are filled with frames, streams that are closed, places that are lent, and what is refused.
 #![tactic(auto)]
 
 #[cfg(test)]
 mod buffered;
 #[cfg(test)]
 mod closing;
+#[cfg(test)]
+mod filled;
 #[cfg(test)]
 mod joined;
 #[cfg(test)]

@@ -1,0 +1,34 @@
+-- What a call that fills a buffer with frames does.
+use Rattle.std.specs.Prelude.{◌≡◌, ℕ, ◌-◌, List, length, Option, None, Some}
+use Rattle.iw_connection.specs.declared.filling.Filled.{Filled}
+use Rattle.iw_connection.specs.declared.working.Refusal as connection
+use Rattle.iw_connection.specs.declared.working.Refusal.TheVariants as stops
+use Rattle.iw_connection.specs.Filling.{FillsTo}
+use Rattle.iw_endpoint.specs.Endpoint.{EndpointState}
+use Rattle.iw_handle.specs.declared.event.Filling.{Filling}
+use Rattle.iw_handle.specs.declared.held.Held.{Held}
+use Rattle.iw_handle.specs.declared.refusal.Refusal.{Refusal}
+use Rattle.iw_handle.specs.declared.refusal.Refusal.TheVariants as refusals
+use Rattle.iw_handle.specs.Events.{filling_of}
+use Rattle.iw_handle.specs.State.{State, with_endpoint}
+
+abbrev pub stop_reason : connection.Refusal → Refusal
+stop_reason stops.NoSuchStream = refusals.NoSuchStream
+stop_reason stops.NoMemory = refusals.NoMemory
+stop_reason stops.TooFar = refusals.TooFar
+
+-- frames were put behind octets, up to where `fill` of a connection stops, and this is told of them
+pub record FillsBy (old : EndpointState) (number most : ℕ) (before after : List ℕ) (new : EndpointState) (filling : Filling) : Type 0 where
+  pub frames : ℕ
+  pub filled : Filled
+  pub capacity : ℕ
+  pub fills : FillsTo old number most before after capacity new frames filled
+  pub told : filling ≡ filling_of filled frames (length after - length before)
+
+-- the same at a handle and a buffer
+pub record FillsAt (held : Held) (number most : ℕ) (before : List ℕ) (handle : State) (buffer : Option (List ℕ)) (filling : Filling) : Type 0 where
+  pub after : List ℕ
+  pub new : EndpointState
+  pub fills : FillsBy held.endpoint number most before after new filling
+  pub handle_is : handle ≡ Some (with_endpoint held new)
+  pub buffer_is : buffer ≡ Some after
