@@ -1,6 +1,5 @@
-/* Replays a schedule of two endpoints, as `iwarp replay` does, through the C interface alone: it reads the schedule on its
- * standard input and prints the trace (docs/SCHEDULES.md). The status is 2 if a line is not in the language, or names a stream
- * or octets that do not exist. */
+/* Replays a schedule of two endpoints, as `iwarp replay` does, through the C interface alone. `c-replay --help` says how it is
+ * run. */
 #include "host.h"
 
 enum { STREAMS = 64, WORDS = 9, FRAME = 66000, MOST_READS = 16 };
@@ -530,12 +529,20 @@ static void line(char *text) {
     event();
 }
 
-int main(void) {
+static const char usage[] =
+    "usage: c-replay < SCHEDULE\n"
+    "\n"
+    "Reads a schedule of two endpoints on its standard input, and prints the trace\n"
+    "(docs/SCHEDULES.md). The status is 2 if a line is not in the language, or names a stream or\n"
+    "octets that do not exist.\n";
+
+int main(int n, char **all) {
     struct octets schedule = {0};
+    words_of(n, all, 0, 0, usage);
     for (;;) {
-        ssize_t n = read(0, frame, sizeof frame);
-        if (n <= 0) break;
-        append(&schedule, frame, (size_t)n);
+        ssize_t got = read(0, frame, sizeof frame);
+        if (got <= 0) break;
+        append(&schedule, frame, (size_t)got);
     }
     append(&schedule, (const uint8_t *)"", 1);
     if (iwarp_new(&ends[0].handle) != IWARP_OK || iwarp_new(&ends[1].handle) != IWARP_OK) fail();

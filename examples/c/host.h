@@ -11,6 +11,47 @@ static inline int64_t seconds(void) {
     return now.tv_sec;
 }
 
+/* ---- the words of a program */
+
+/* The words behind a program's name, and how it is used. */
+struct words {
+    int n;
+    char **at;
+    const char *usage;
+};
+
+/* Says what is wrong with a word, and how the program is used, and ends it. */
+static inline void misused(const struct words *words, const char *word, const char *why) {
+    fprintf(stderr, "%s%s\n\n%s", word, why, words->usage);
+    exit(2);
+}
+
+/* The words of a program: `least` to `most` of them. If the first asks for help, tells how the program is used, and ends it. */
+static inline struct words words_of(int n, char **all, int least, int most, const char *usage) {
+    struct words words = {n - 1, all + 1, usage};
+    if (n > 1 && (strcmp(all[1], "--help") == 0 || strcmp(all[1], "-h") == 0)) {
+        fputs(usage, stdout);
+        exit(0);
+    }
+    if (words.n < least) misused(&words, "", "words are missing");
+    if (words.n > most) misused(&words, words.at[most], ": one word too many");
+    return words;
+}
+
+/* The number, from `least` to `most`, that a word spells; `otherwise` if there is no such word. */
+static inline long number_of(const struct words *words, int i, long least, long most, long otherwise) {
+    if (i >= words->n) return otherwise;
+    const char *word = words->at[i];
+    char why[80], *rest;
+    long number = strtol(word, &rest, 10);
+    if (*word >= '0' && *word <= '9' && *rest == 0 && number >= least && number <= most) return number;
+    snprintf(why, sizeof why, ": not a number from %ld to %ld", least, most);
+    misused(words, word, why);
+    return otherwise;
+}
+
+/* ---- sockets of this machine */
+
 /* The address of a port of this machine. */
 static inline struct sockaddr_in local_port(unsigned short port) {
     struct sockaddr_in address;
@@ -19,6 +60,33 @@ static inline struct sockaddr_in local_port(unsigned short port) {
     address.sin_port = htons(port);
     address.sin_addr.s_addr = htonl(0x7f000001);
     return address;
+}
+
+/* Listens at a port, or at any that is free if it is 0, and prints `port Q`. If that fails, ends the program. No accept of the
+ * socket waits if `how` is SOCK_NONBLOCK. */
+static inline int listen_at(unsigned short port, int how) {
+    struct sockaddr_in address = local_port(port);
+    socklen_t n = sizeof address;
+    int fd = socket(AF_INET, SOCK_STREAM | how, 0);
+    if (fd < 0 || bind(fd, (struct sockaddr *)&address, n) != 0 || listen(fd, 4096) != 0 ||
+        getsockname(fd, (struct sockaddr *)&address, &n) != 0) {
+        perror("listen");
+        exit(1);
+    }
+    printf("port %d\n", ntohs(address.sin_port));
+    fflush(0);
+    return fd;
+}
+
+/* Connects to a port. If that fails, ends the program. */
+static inline int connect_to(unsigned short port) {
+    struct sockaddr_in address = local_port(port);
+    int fd = socket(AF_INET, SOCK_STREAM, 0);
+    if (fd < 0 || connect(fd, (struct sockaddr *)&address, sizeof address) != 0) {
+        perror("connect");
+        exit(1);
+    }
+    return fd;
 }
 
 #endif

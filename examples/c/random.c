@@ -96,6 +96,20 @@ static void takes(int done, struct iwarp_buffer *buffer, size_t had, const uint8
     CHECK(done ? n == 0 : n == had && (n == 0 || later == at));
 }
 
+/* The first n octets go, and the others stay as they are. */
+static void call_drop_front(struct iwarp_buffer *buffer, size_t n) {
+    static uint8_t kept[LONGEST];
+    uint8_t *at, *later;
+    size_t had = has(buffer, &at), left = had == MARK || n > had ? 0 : had - n;
+    if (left > sizeof kept) left = sizeof kept;
+    if (left > 0) memcpy(kept, at + n, left);
+    if (!answered(iwarp_buffer_drop_front(buffer, n))) {
+        CHECK(had == MARK);
+        return;
+    }
+    CHECK(has(buffer, &later) == (n > had ? 0 : had - n) && (left == 0 || memcmp(later, kept, left) == 0));
+}
+
 /* Memory. */
 static void call_memory(struct iwarp *handle, struct iwarp_buffer *buffer) {
     uint32_t stag = MARK, pd = any_domain(), named = any_stag();
@@ -103,9 +117,12 @@ static void call_memory(struct iwarp *handle, struct iwarp_buffer *buffer) {
     struct iwarp_facts facts;
     uint8_t *at, *later;
     size_t had = has(buffer, &at);
-    switch (below(16)) {
+    switch (below(17)) {
     case 0:
         answered(iwarp_add_domain(handle, pd));
+        return;
+    case 15:
+        call_drop_front(buffer, len);
         return;
     case 13:
         if (answered(iwarp_register_for(handle, any_stream(), any_place(), given, len, any_bits(15), &stag)))
@@ -260,9 +277,25 @@ static void call_due(struct iwarp *handle, uint32_t stream) {
         CHECK(wants == (emission.kind != IWARP_NOTHING));
 }
 
-/* Octets are written to the place that is lent, and counted. */
+/* A call on a stream by which a place that is lent there is taken back, whatever it answers. */
+static void call_in_between(struct iwarp *handle, uint32_t stream) {
+    struct iwarp_event event;
+    struct iwarp_emission emission;
+    uint32_t kept;
+    size_t n;
+    switch (below(4)) {
+    case 0: answered(iwarp_work(handle, stream, &event)); break;
+    case 1: answered(iwarp_work_on(handle, stream, &event)); break;
+    case 2: answered(iwarp_emit(handle, stream, out, below(2) ? sizeof out : 0, &n, &emission)); break;
+    default: answered(iwarp_deliver(handle, stream, below(400), given, below(80), &kept)); break;
+    }
+}
+
+/* Octets are written to the place that is lent, and counted, whatever other streams do meanwhile; or a call on this stream takes the
+ * place back. */
 static void call_room(struct iwarp *handle, uint32_t stream) {
     size_t want = below(3) ? below(400) : chance(), n = MARK;
+    uint32_t other = any_stream();
     uint8_t *at = 0;
     if (!answered(iwarp_room(handle, stream, want, &at, &n))) {
         CHECK(n == MARK && at == 0);
@@ -270,9 +303,47 @@ static void call_room(struct iwarp *handle, uint32_t stream) {
     }
     CHECK(n <= want && n <= 65536);
     CHECK(iwarp_came(handle, stream, n + 1 + below(100)) == IWARP_NOT_LENT);
+    if (below(8) == 0) {
+        call_in_between(handle, stream);
+        CHECK(iwarp_came(handle, stream, 1 + below((uint32_t)n + 1)) == IWARP_NOT_LENT);
+        return;
+    }
+    for (int i = 0; other != stream && i < 3; i++) call_in_between(handle, other);
     for (size_t i = 0; i < n; i++) at[i] = (uint8_t)chance();
-    if (answered(iwarp_came(handle, stream, below(2) ? n : below((uint32_t)n + 1))))
-        CHECK(iwarp_came(handle, stream, 1) == IWARP_NOT_LENT);
+    size_t came = below(2) ? n : below((uint32_t)n + 1);
+    CHECK(answered(iwarp_came(handle, stream, came)) == (came > 0));
+    CHECK(iwarp_came(handle, stream, 1) == (came > 0 || n == 0 ? IWARP_NOT_LENT : IWARP_OK));
+}
+
+/* What a call of iwarp_fill tells is what the buffer has more, and what the stream has sent more; or nothing changed. */
+static int filled(struct iwarp *handle, uint32_t stream, size_t most, struct iwarp_buffer *buffer, struct iwarp_filling *filling) {
+    struct iwarp_progress before = {.sent = MARK}, after = {.sent = MARK};
+    uint8_t *at;
+    size_t had = has(buffer, &at);
+    uint32_t wants = 2;
+    int32_t told = iwarp_progress(handle, stream, &before);
+    *filling = (struct iwarp_filling){.kind = MARK};
+    int done = answered(iwarp_fill(handle, stream, most, buffer, filling));
+    CHECK(iwarp_progress(handle, stream, &after) == told);
+    if (!done) {
+        CHECK(filling->kind == MARK && has(buffer, &at) == had && after.sent == before.sent && after.due == before.due);
+        return 0;
+    }
+    CHECK(told == IWARP_OK && filling->kind <= IWARP_FILL_DENIED && filling->reserved[0] == 0);
+    CHECK(has(buffer, &at) == had + filling->n && after.sent == before.sent + filling->n);
+    CHECK((filling->frames > 0) == (filling->n > 0) && (filling->n <= most || filling->frames == 1));
+    CHECK(iwarp_wants_write(handle, stream, &wants) == IWARP_OK);
+    switch (filling->kind) {
+    case IWARP_FILL_ALL: CHECK(!wants); break;
+    case IWARP_FILL_MORE: CHECK(filling->frames > 0 && (wants || filling->n > most || refused > refused_before)); break;
+    default: CHECK(wants); break; /* a Terminate is due */
+    }
+    return 1;
+}
+
+static void call_fill(struct iwarp *handle, uint32_t stream, size_t most, struct iwarp_buffer *buffer) {
+    struct iwarp_filling filling;
+    filled(handle, stream, most, buffer, &filling);
 }
 
 /* Postings, and octets that come and go: those of the one handle to the other, or any. */
@@ -286,7 +357,10 @@ static void call_octets(struct iwarp *handle, struct iwarp *other, struct iwarp_
     uint8_t *at, *later;
     size_t had = has(buffer, &at);
     struct iwarp_progress progress = {.sent = MARK};
-    switch (below(18)) {
+    switch (below(19)) {
+    case 17:
+        call_fill(handle, stream, below(2) ? len : below(3), buffer);
+        return;
     case 14:
         takes(answered(iwarp_post_send_buffer(handle, stream, buffer, any_bits(3), any_stag(), chance())), buffer, had, at);
         return;
@@ -380,7 +454,7 @@ static void any_calls(void) {
 
 /* ---- two ends and a model */
 
-enum { STREAM = 64, DOMAIN = 1, REGION = 200000, MESSAGE = 2000, POSTED = 200, TURNS = 2000, SENT = 1 << 20 };
+enum { STREAM = 64, DOMAIN = 1, REGION = 200000, MESSAGE = 2000, POSTED = 200, TURNS = 2000, SENT = 1 << 20, MOST_EMITTED = 90000 };
 
 /* What one end has posted, and what of it was reported as done. */
 struct sender {
@@ -397,8 +471,9 @@ struct sender {
     unsigned sends, received; /* how many were posted, and how many came at the other end */
     uint8_t written[REGION]; /* the other end's region, once all that was posted is placed: Writes do not overlap */
     size_t end_of_written;
-    uint8_t *sent; /* all that was emitted */
+    uint8_t *sent; /* all that a socket took of what was emitted */
     size_t emitted, delivered; /* how much that is, and up to where the other end had all of it */
+    struct iwarp_buffer frames; /* what was emitted and not yet taken */
     size_t reached; /* past the last octet of it that the other end had */
 };
 
@@ -421,6 +496,7 @@ static void begin(struct sender *sender, struct sender *other, uint32_t options)
     MUST(iwarp_new(&sender->end));
     MUST(iwarp_add_domain(&sender->end, DOMAIN));
     MUST(iwarp_buffer_new(0, &sender->buffer));
+    MUST(iwarp_buffer_new(0, &sender->frames));
     MUST(iwarp_register(&sender->end, DOMAIN, 0, other->written, REGION, IWARP_WRITE | IWARP_READ, &other->stag));
     MUST(iwarp_register(&sender->end, DOMAIN, 0, sender->written, REGION, IWARP_SINK, &sender->sink));
     MUST(iwarp_open_next(&sender->end, DOMAIN, IWARP_PRESET, options, given, 0, &number));
@@ -497,15 +573,48 @@ static void post(struct sender *sender) {
     sender->posted++;
 }
 
-static void emit(struct sender *sender) {
+/* Emits a frame to where the socket's octets are. */
+static void emit_one(struct sender *sender) {
     struct iwarp_emission emission;
     uint32_t wants;
     size_t n;
-    if (sender->emitted + 70000 > SENT) return;
     MUST(iwarp_wants_write(&sender->end, STREAM, &wants));
     MUST(iwarp_emit(&sender->end, STREAM, sender->sent + sender->emitted, SENT - sender->emitted, &n, &emission));
     CHECK(emission.kind != IWARP_DENIED && wants == (emission.kind != IWARP_NOTHING) && (wants || n == 0));
     sender->emitted += n;
+}
+
+/* Puts frames behind those that are not taken yet, and again for as long as memory is refused. */
+static void emit_some(struct sender *sender) {
+    struct iwarp_filling filling;
+    do refused_before = refused;
+    while (!filled(&sender->end, STREAM, below(4) ? below(20000) : below(3), &sender->frames, &filling));
+    CHECK(filling.kind != IWARP_FILL_DENIED);
+}
+
+/* A socket takes some of the frames: they are dropped, and the rest stays. All that was emitted was taken, or is left. */
+static void take_some(struct sender *sender) {
+    struct iwarp_progress progress;
+    uint8_t *at;
+    size_t n = has(&sender->frames, &at), taken = below(3) ? n : below((uint32_t)n + 1);
+    if (n > 0 && taken == 0) taken = 1;
+    if (taken > 0) memcpy(sender->sent + sender->emitted, at, taken);
+    sender->emitted += taken;
+    MUST(iwarp_buffer_drop_front(&sender->frames, taken));
+    CHECK(has(&sender->frames, &at) == n - taken);
+    MUST(iwarp_progress(&sender->end, STREAM, &progress));
+    CHECK(progress.sent == sender->emitted + n - taken);
+}
+
+static void emit(struct sender *sender) {
+    uint8_t *at;
+    size_t left = has(&sender->frames, &at);
+    int is_full = sender->emitted + left + MOST_EMITTED > SENT;
+    if (!is_full && left == 0 && below(2))
+        emit_one(sender);
+    else if (!is_full && (left == 0 || below(3)))
+        emit_some(sender);
+    take_some(sender);
 }
 
 /* Whether an end's region shows the first octets that the other end has written. */
@@ -591,6 +700,7 @@ static void finish(struct sender *sender) {
     MUST(iwarp_close(&sender->end, STREAM));
     CHECK(iwarp_close(&sender->end, STREAM) == IWARP_NO_SUCH_STREAM);
     iwarp_buffer_free(&sender->buffer);
+    iwarp_buffer_free(&sender->frames);
     iwarp_free(&sender->end);
 }
 
@@ -625,7 +735,7 @@ static void two_ends(void) {
         }
     }
     for (int i = 0; i < 2; i++)
-        if (ends[i].emitted + 70000 <= SENT && ends[1 - i].emitted + 70000 <= SENT) settled(&ends[i], &ends[1 - i]);
+        if (ends[i].emitted + MOST_EMITTED <= SENT && ends[1 - i].emitted + MOST_EMITTED <= SENT) settled(&ends[i], &ends[1 - i]);
     for (int i = 0; i < 2; i++) finish(&ends[i]);
 }
 

@@ -1,52 +1,57 @@
-/* A storage target. Each peer has a region of its own: it writes there, then sends a Send, and the target sends back as many
- * octets of the region as the Send had.
+/* A storage target for many peers. Each peer has a region of its own: it writes there, then sends a Send, and the target sends
+ * back as many octets of the region as the Send had. `target --help` says how it is run; `iwarp connect --port Q` is its peer.
  *
- *     target COUNT [OPTIONS [PORT [BUFFERS]]]
- *
- * prints `port Q`, serves COUNT connections, or without end if COUNT is 0, and prints a line for each Send that it received.
- * OPTIONS is a sum of IWARP_MARKERS, IWARP_CRC and IWARP_ENHANCED; PORT is 0 for any free port. The status is 1 if a connection
- * failed. `iwarp connect --port Q` is its peer.
- *
- * At most 1024 connections are served at a time. Each has a stream, which is opened for it and closed once it is over, and a
- * region that is registered for this stream, so that no peer reaches another's region, whatever STag it names. With BUFFERS, 1
- * to 1024, they share a pool of that many receive buffers.
+ * Each connection has a stream, which is opened for it and closed once it is over, and a region that is registered for this
+ * stream, so that no peer reaches another's region, whatever STag it names. A domain has room for 1,024 regions, so there is a
+ * domain for each 1,024 connections: one more is added when all places are taken. A connection that finds no room is closed, and
+ * one for which memory runs out is ended; the others go on. If the system has no descriptor left, connections wait until there is
+ * one.
  *
  * A region is made invalid before its octets are read: until then its peer may change them (RFC 5042 6.2.2). Nothing blocks: what
- * a socket does not take is kept, and the connection is not read while it is; a peer that is silent, or reads nothing, for IDLE
- * seconds is dropped. After a fault the Terminate is written out, the output is shut down, and what still comes is read and
- * dropped until the peer closes: a socket that is closed with octets unread resets the connection, and its peer may lose the
+ * a socket does not take is kept, and the connection is not read while it is; a peer that is silent, or reads nothing, for
+ * PATIENCE seconds is dropped. After a fault the Terminate is written out, the output is shut down, and what still comes is read
+ * and dropped until the peer closes: a socket that is closed with octets unread resets the connection, and its peer may lose the
  * Terminate. */
-#include "host.h"
+#define MOST_READ 4096 /* as many as a message has at most */
+#include "waiting.h"
 
-enum { REGION = 65536, BUFFER = 4096, READ = 65536, WRITE = 65536, MOST = 1024, EVENTS = 64, IDLE = 60, DOMAIN = 1 };
+enum { BUFFER = 4096, REGION = BUFFER, EVENTS = 64, PLACES = 1024, MOST_DOMAINS = 255, MOST_BUFFERS = 1024 };
 
 struct connection {
-    int fd; /* -1 if it has none */
-    uint32_t stream;
-    uint32_t stag;
+    struct carried carried; /* its stream and its socket, first of all; the socket is -1 if the place is free */
+    uint32_t domain;
     struct iwarp_buffer region; /* the octets of its region, before it is registered and after it is deregistered */
-    struct iwarp_buffer frames; /* what was emitted */
-    size_t written; /* how many of its octets the socket has taken */
+    int registered;
+    uint32_t stag;
     uint32_t waits_for; /* EPOLLIN or EPOLLOUT */
     int received; /* a Send came from its peer */
     int failed;
-    int ended; /* its stream has ended: nothing more is delivered */
-    int closed; /* its peer's start-up frame is wrong, which ends the connection too (RFC 5044 7.1.1) */
-    int shut; /* its output is shut down: what comes is dropped until the peer closes */
+    int over; /* it is to be closed: a call was refused that the stream needs */
+    int closing; /* its peer's start-up frame is wrong, which ends the connection (RFC 5044 7.1.1), once all is written */
     int64_t heard; /* when octets came or went last */
+    struct connection *next; /* another free place */
+};
+
+/* A domain, with a place for each region that it has room for. */
+struct domain {
+    struct connection *places;
+    int lacking; /* how many buffers of its pool there was no memory for */
 };
 
 static struct iwarp end = IWARP_CLOSED;
-static struct connection connections[MOST];
+static struct domain domains[MOST_DOMAINS]; /* that of number 1 is the first */
+static uint32_t added, most; /* how many domains there are, and how many there may be */
+static struct connection *free_places;
 static const uint8_t none[1]; /* the private data of a responder */
 static struct iwarp_buffer message = IWARP_NO_BUFFER; /* a receive buffer, between two postings */
 static uint32_t options;
-static int pooled; /* how many buffers a pool has; 0 if there is none */
-static int poller, listener, count, begun, live, failures;
+static int pooled; /* how many buffers a domain's pool has; 0 if each stream has its own */
+static int poller, listener, failures;
+static long count, begun, live;
 static int listens; /* whether the listener is watched */
-static int64_t resumes; /* not before: a table of the system was full */
+static int64_t resumes; /* not before: there was no descriptor */
 
-/* Ends the program if a call was refused. */
+/* Ends the program if a call was refused that has no reason to be. */
 static void must(int32_t code, const char *call) {
     if (code == IWARP_OK) return;
     fprintf(stderr, "%s: %s\n", call, iwarp_text(code));
@@ -58,290 +63,339 @@ static void print_octets(const uint8_t *from, size_t n) {
     for (size_t i = 0; i < n; i++) printf("%02x", from[i]);
 }
 
-static void watch(int fd, int how, uint32_t events, void *data) {
+static int watch(int fd, int how, uint32_t events, void *data) {
     struct epoll_event event = {.events = events, .data = {.ptr = data}};
-    if (epoll_ctl(poller, how, fd, &event) != 0) exit(1);
+    return epoll_ctl(poller, how, fd, &event);
 }
 
-/* ---- the handle */
+/* ---- domains, and places for connections */
 
-static void open_end(void) {
-    must(iwarp_new(&end), "new");
-    must(iwarp_add_domain(&end, DOMAIN), "add_domain");
-    if (!pooled) return;
-    must(iwarp_share(&end, DOMAIN), "share");
-    for (int i = 0; i < pooled; i++) must(iwarp_post_shared(&end, DOMAIN, BUFFER), "post_shared");
+/* Posts buffers to a pool that there was no memory for. */
+static void fill_pool(uint32_t number) {
+    int *lacking = &domains[number - 1].lacking;
+    while (*lacking > 0 && iwarp_post_shared(&end, number, BUFFER) == IWARP_OK) --*lacking;
 }
 
-/* Frees it; of a pool each buffer has come back. */
+/* Adds the next domain, with a pool if there are to be pools. Returns whether it could: it may be called again. */
+static int add_domain(void) {
+    struct domain *domain = &domains[added];
+    uint32_t number = added + 1;
+    if (added == most) return 0;
+    if (!domain->places) domain->places = calloc(PLACES, sizeof *domain->places);
+    if (!domain->places) return 0;
+    int32_t code = iwarp_add_domain(&end, number);
+    if (code != IWARP_OK && code != IWARP_DOMAIN_TAKEN) return 0; /* it is taken if there was no memory for its pool before */
+    if (pooled && iwarp_share(&end, number) != IWARP_OK) return 0;
+    for (int i = PLACES; i-- > 0; free_places = &domain->places[i])
+        domain->places[i] = (struct connection){.carried = {.fd = -1}, .domain = number, .next = free_places};
+    domain->lacking = pooled;
+    added++;
+    return 1;
+}
+
+/* A free place, or none. */
+static struct connection *take_place(void) {
+    if (!free_places && !add_domain()) return 0;
+    struct connection *place = free_places;
+    free_places = place->next;
+    return place;
+}
+
+static void free_place(struct connection *place) {
+    *place = (struct connection){.carried = {.fd = -1}, .domain = place->domain, .next = free_places};
+    free_places = place;
+}
+
+/* Frees the handle; each buffer of a pool has come back. */
 static void free_end(void) {
-    uint32_t found = 1;
-    for (int i = 0; pooled && i <= pooled && found; i++) {
-        must(iwarp_take_shared_buffer(&end, DOMAIN, &message, &found), "take_shared_buffer");
-        if (found == (i == pooled)) failures++;
+    uint32_t found;
+    for (uint32_t number = 1; pooled && number <= added; number++) {
+        int n = domains[number - 1].lacking;
+        do {
+            must(iwarp_take_shared_buffer(&end, number, &message, &found), "take_shared_buffer");
+            n += (int)found;
+        } while (found);
+        if (n != pooled) failures++;
     }
     iwarp_free(&end);
+    for (int i = 0; i < MOST_DOMAINS; i++) free(domains[i].places);
 }
 
 /* ---- a connection's stream */
 
-/* Makes what a connection has at the handle: a stream, with a receive buffer unless there is a pool, and a region. */
-static void open_stream(struct connection *connection) {
-    uint32_t *stream = &connection->stream;
-    if (pooled) {
-        must(iwarp_open_shared_next(&end, DOMAIN, IWARP_RESPONDER, options, none, 0, stream), "open_shared_next");
-    } else {
-        must(iwarp_open_next(&end, DOMAIN, IWARP_RESPONDER, options, none, 0, stream), "open_next");
-        must(iwarp_post_recv(&end, *stream, BUFFER), "post_recv");
-    }
-    must(iwarp_buffer_new(REGION, &connection->region), "buffer_new");
-    must(iwarp_buffer_new(0, &connection->frames), "buffer_new");
-    must(iwarp_register_buffer_for(&end, *stream, 0, &connection->region, IWARP_WRITE, &connection->stag), "register_buffer_for");
+/* Opens a stream. */
+static int32_t open_stream(struct connection *connection) {
+    uint32_t domain = connection->domain, *stream = &connection->carried.stream;
+    if (!pooled) return iwarp_open_next(&end, domain, IWARP_RESPONDER, options, none, 0, stream);
+    fill_pool(domain);
+    return iwarp_open_shared_next(&end, domain, IWARP_RESPONDER, options, none, 0, stream);
+}
+
+/* Makes what a stream needs: a receive buffer, unless there is a pool, and a region. */
+static int32_t equip(struct connection *connection) {
+    uint32_t stream = connection->carried.stream;
+    int32_t code = pooled ? IWARP_OK : iwarp_post_recv(&end, stream, BUFFER);
+    if (code == IWARP_OK) code = iwarp_buffer_new(0, &connection->carried.frames);
+    if (code == IWARP_OK) code = iwarp_buffer_new(REGION, &connection->region);
+    if (code == IWARP_OK)
+        code = iwarp_register_buffer_for(&end, stream, 0, &connection->region, IWARP_WRITE, &connection->stag);
+    connection->registered = code == IWARP_OK;
+    return code;
 }
 
 /* Accepts the peer's Request, with its region's STag, highest octet first, as private data. */
-static void answer(struct connection *connection) {
+static int32_t answer(struct connection *connection) {
     uint32_t stag = connection->stag, agreed;
     uint8_t name[4] = {(uint8_t)(stag >> 24), (uint8_t)(stag >> 16), (uint8_t)(stag >> 8), (uint8_t)stag};
-    must(iwarp_accept(&end, connection->stream, name, 4, &agreed), "accept");
+    return iwarp_accept(&end, connection->carried.stream, name, 4, &agreed);
 }
 
+/* Posts the buffer that was fetched to its pool again, if it is a pool's. */
 static void give_back(struct connection *connection) {
-    size_t len;
-    must(iwarp_fetch_buffer(&end, connection->stream, &message, &len), "fetch_buffer");
-    if (pooled) must(iwarp_post_shared_buffer(&end, DOMAIN, &message), "post_shared_buffer");
+    if (!pooled) return;
+    int32_t code = iwarp_post_shared_buffer(&end, connection->domain, &message);
+    if (code == IWARP_NO_MEMORY) domains[connection->domain - 1].lacking++;
+    else must(code, "post_shared_buffer");
 }
 
 /* A Send came: sends back as many octets of the region, which its peer can no longer write. */
-static void echo(struct connection *connection) {
+static int32_t echo(struct connection *connection) {
     static uint8_t reply[BUFFER];
     uint8_t *region, *at;
     size_t n, all;
-    must(iwarp_fetch_buffer(&end, connection->stream, &message, &n), "fetch_buffer");
+    must(iwarp_fetch_buffer(&end, connection->carried.stream, &message, &n), "fetch_buffer");
     must(iwarp_buffer_at(&message, &at, &all), "buffer_at");
-    printf("stream %d received ", (int)connection->stream);
+    printf("stream %u received ", (unsigned)connection->carried.stream);
     print_octets(at, n);
     printf("\n");
-    fflush(0);
+    give_back(connection);
     connection->received = 1;
     must(iwarp_invalidate(&end, connection->stag), "invalidate");
     must(iwarp_region_at(&end, connection->stag, &region, &all), "region_at");
     memcpy(reply, region, n);
-    int32_t posted = iwarp_post_send(&end, connection->stream, reply, n, 0, 0, 0);
-    if (posted != IWARP_OK && posted != IWARP_MESSAGES_FULL) must(posted, "post_send");
-    if (posted != IWARP_OK) connection->failed = 1;
-    if (pooled) must(iwarp_post_shared_buffer(&end, DOMAIN, &message), "post_shared_buffer");
+    return iwarp_post_send(&end, connection->carried.stream, reply, n, 0, 0, 0);
 }
 
-/* Works until there is nothing to do. */
-static void work(struct connection *connection) {
-    struct iwarp_event event;
-    for (;;) {
-        must(iwarp_work_on(&end, connection->stream, &event), "work_on");
-        switch (event.kind) {
-        case IWARP_IDLE:
-            return;
-        case IWARP_ASKED:
-            answer(connection);
-            break;
-        case IWARP_RECEIVED:
-            echo(connection);
-            break;
-        case IWARP_FLUSHED_RECV:
-            give_back(connection);
-            break;
-        case IWARP_FAULT:
-        case IWARP_TERMINATED:
-            printf("stream %d fault %d %d %d %s\n", (int)connection->stream, (int)event.layer, (int)event.error, (int)event.code,
-                   iwarp_fault_text(event.layer, event.error, event.code));
-            connection->failed = connection->ended = 1;
-            break;
-        case IWARP_CLOSED_BY_PEER:
-            printf("stream %d closed %d\n", (int)connection->stream, (int)event.code);
-            connection->failed = connection->ended = connection->closed = 1;
-            break;
-        default: /* a message is done, or is flushed */
-            break;
-        }
+/* The stream has ended: a receive buffer comes back. */
+static void get_back(struct connection *connection) {
+    size_t n;
+    must(iwarp_fetch_buffer(&end, connection->carried.stream, &message, &n), "fetch_buffer");
+    give_back(connection);
+}
+
+static void tell_fault(const struct connection *connection, const struct iwarp_event *event) {
+    printf("stream %u fault %u %u %u %s\n", (unsigned)connection->carried.stream, (unsigned)event->layer, (unsigned)event->error,
+           (unsigned)event->code, iwarp_fault_text(event->layer, event->error, event->code));
+}
+
+/* A call that the connection needs was refused, for want of memory or because its peer asks for too much: it is to be closed. */
+static void give_up(struct connection *connection, int32_t code) {
+    printf("stream %u is given up: %s\n", (unsigned)connection->carried.stream, iwarp_text(code));
+    connection->over = connection->failed = 1;
+}
+
+static void act_on(struct carried *carried, const struct iwarp_event *event) {
+    struct connection *connection = (struct connection *)carried;
+    int32_t code;
+    switch (event->kind) {
+    case IWARP_ASKED:
+    case IWARP_RECEIVED:
+        code = event->kind == IWARP_ASKED ? answer(connection) : echo(connection);
+        if (code != IWARP_OK) give_up(connection, code);
+        break;
+    case IWARP_FLUSHED_RECV:
+        get_back(connection);
+        break;
+    case IWARP_FAULT:
+    case IWARP_TERMINATED:
+        tell_fault(connection, event);
+        connection->failed = carried->ended = 1;
+        break;
+    case IWARP_CLOSED_BY_PEER:
+        printf("stream %u closed %u\n", (unsigned)carried->stream, (unsigned)event->code);
+        connection->failed = connection->closing = 1;
+        break;
+    default: /* a message is done, or is flushed */
+        break;
     }
 }
 
-/* ---- a connection's socket */
+/* ---- a connection */
 
-/* The connection is over: gets back what was posted, closes the stream and gets back the region. */
-static void finish(struct connection *connection) {
-    must(iwarp_break(&end, connection->stream), "break");
-    work(connection);
-    must(iwarp_close(&end, connection->stream), "close");
-    must(iwarp_deregister_buffer(&end, connection->stag, &connection->region), "deregister_buffer");
-    iwarp_buffer_free(&connection->region);
-    iwarp_buffer_free(&connection->frames);
-    if (connection->failed || !connection->received) failures++;
-    close(connection->fd);
-    connection->fd = -1;
+/* A connection failed, also if there is no other reason: its peer asked to read what it may not, or it sent nothing. */
+static int has_failed(const struct connection *connection) {
+    int denied = connection->carried.ended, mute = !connection->received;
+    if (!connection->failed && (denied || mute))
+        printf("stream %u: %s\n", (unsigned)connection->carried.stream, denied ? "a Read was denied" : "no Send came");
+    return connection->failed || denied || mute;
+}
+
+/* A place is free, and a descriptor. */
+static void leave(struct connection *connection) {
+    failures += has_failed(connection);
+    close(connection->carried.fd);
+    free_place(connection);
     live--;
+    resumes = 0;
+}
+
+/* The connection is over: gets back what was posted, closes the stream and gets back the region. Nothing here takes memory. */
+static void finish(struct connection *connection) {
+    if (is_closed(&connection->carried) != TURN_DONE) {
+        fprintf(stderr, "stream %u can't be closed\n", (unsigned)connection->carried.stream);
+        exit(1);
+    }
+    if (connection->registered) must(iwarp_deregister_buffer(&end, connection->stag, &connection->region), "deregister_buffer");
+    iwarp_buffer_free(&connection->region);
+    leave(connection);
 }
 
 /* Has the poller tell when the socket can be written, if there is something to write, else when it can be read. */
 static void wait_for(struct connection *connection, uint32_t events) {
-    if (connection->waits_for != events) watch(connection->fd, EPOLL_CTL_MOD, events, connection);
+    if (connection->waits_for != events && watch(connection->carried.fd, EPOLL_CTL_MOD, events, connection) != 0) exit(1);
     connection->waits_for = events;
 }
 
-/* Puts the frames that are due one behind the other, until there are WRITE octets. Returns how many octets there are. */
-static size_t gather(struct connection *connection, uint8_t **at) {
-    struct iwarp_emission emission;
-    size_t n;
-    do {
-        must(iwarp_emit_onto(&end, connection->stream, &connection->frames, &emission), "emit_onto");
-        must(iwarp_buffer_at(&connection->frames, at, &n), "buffer_at");
-        if (emission.kind == IWARP_DENIED) connection->failed = connection->ended = 1;
-    } while (emission.kind != IWARP_NOTHING && n < WRITE);
-    return n;
+/* Writes what is due, a turn for each connection, and says what the connection waits for. */
+static void go_on(struct connection *connection) {
+    enum turn turn = is_writable(&connection->carried);
+    if (turn == TURN_NO_MEMORY) give_up(connection, IWARP_NO_MEMORY);
+    if (turn == TURN_BROKEN) connection->failed = 1;
+    if (connection->over || (turn != TURN_DONE && turn != TURN_LEFT) || (turn == TURN_DONE && connection->closing))
+        finish(connection);
+    else
+        wait_for(connection, turn == TURN_LEFT ? EPOLLOUT : EPOLLIN);
 }
 
-/* Writes what is left of the frames that were gathered, or gathers more and writes those: a turn for each connection. Returns 1 if
- * nothing is left to write, 0 if something is, -1 if the connection broke. */
-static int write_some(struct connection *connection, int64_t now) {
-    uint8_t *at;
-    size_t n;
-    uint32_t wants;
-    must(iwarp_buffer_at(&connection->frames, &at, &n), "buffer_at");
-    if (n == 0) n = gather(connection, &at);
-    while (connection->written < n) {
-        ssize_t wrote = send(connection->fd, at + connection->written, n - connection->written, MSG_NOSIGNAL | MSG_DONTWAIT);
-        if (wrote < 0 && errno == EINTR) continue;
-        if (wrote < 0 && errno == EAGAIN) return 0;
-        if (wrote <= 0) return -1;
-        connection->written += (size_t)wrote;
-        connection->heard = now;
-    }
-    must(iwarp_buffer_truncate(&connection->frames, 0), "buffer_truncate");
-    connection->written = 0;
-    work(connection);
-    must(iwarp_wants_write(&end, connection->stream, &wants), "wants_write");
-    return !wants;
+/* Octets came, or the peer's close. Once the output is shut down, who sends on keeps the connection no longer open. */
+static void hear(struct connection *connection, int64_t now) {
+    if (!connection->carried.ended) connection->heard = now;
+    enum turn turn = is_readable(&connection->carried);
+    if (turn == TURN_NO_MEMORY) give_up(connection, IWARP_NO_MEMORY);
+    if (turn == TURN_DONE && !connection->over)
+        go_on(connection);
+    else
+        finish(connection);
 }
 
-/* Goes on with what is due. Once all is written of a stream that has ended, shuts the output down. */
-static void go_on(struct connection *connection, int64_t now) {
-    int written = write_some(connection, now);
-    if (written < 0) {
-        connection->failed = 1;
-        finish(connection);
-    } else if (written == 0) {
-        wait_for(connection, EPOLLOUT);
-    } else if (connection->closed) {
-        finish(connection);
+/* The socket is ready for what the connection waits for. */
+static void attend(struct connection *connection, int64_t now) {
+    if (connection->waits_for == EPOLLIN) {
+        hear(connection, now);
     } else {
-        if (connection->ended && !connection->shut) {
-            connection->shut = 1;
-            shutdown(connection->fd, SHUT_WR);
-        }
-        wait_for(connection, EPOLLIN);
+        connection->heard = now;
+        go_on(connection);
     }
-}
-
-/* Reads to where the octets are to stand. */
-static void take(struct connection *connection, int64_t now) {
-    uint8_t *at;
-    size_t room;
-    must(iwarp_room(&end, connection->stream, READ, &at, &room), "room");
-    ssize_t n = recv(connection->fd, at, room, MSG_DONTWAIT);
-    if (n < 0 && (errno == EINTR || errno == EAGAIN)) return;
-    if (n <= 0) {
-        finish(connection);
-        return;
-    }
-    if (connection->shut) return; /* who sends on keeps it no longer open */
-    connection->heard = now;
-    must(iwarp_came(&end, connection->stream, (size_t)n), "came");
-    work(connection);
-    go_on(connection, now);
 }
 
 /* ---- the listener */
 
+static int wants_more(void) { return count == 0 || begun < count; }
+
 static void set_listening(int wanted) {
-    if (wanted != listens) watch(listener, wanted ? EPOLL_CTL_ADD : EPOLL_CTL_DEL, EPOLLIN, 0);
+    if (wanted != listens && watch(listener, EPOLL_CTL_MOD, wanted ? EPOLLIN : 0, 0) != 0) exit(1);
     listens = wanted;
 }
 
-static struct connection *free_place(void) {
-    for (int i = 0; i < MOST; i++)
-        if (connections[i].fd < 0) return &connections[i];
-    return 0;
-}
-
-static void begin(int64_t now) {
-    struct connection *connection = free_place();
-    if (!connection) return;
-    int fd = accept(listener, 0, 0);
-    if (fd < 0) {
-        if (errno == EMFILE || errno == ENFILE) resumes = now + 1;
+/* A connection came. It is closed if it finds no room. */
+static void begin(int fd, int64_t now) {
+    struct connection *connection = take_place();
+    begun++;
+    if (!connection) {
+        printf("a connection was refused: no place is free\n");
+        close(fd);
+        failures++;
         return;
     }
-    *connection = (struct connection){.fd = fd, .heard = now, .waits_for = EPOLLIN};
     live++;
-    begun++;
-    open_stream(connection);
-    watch(fd, EPOLL_CTL_ADD, EPOLLIN, connection);
+    connection->carried = (struct carried){.end = &end, .fd = fd, .frames = IWARP_NO_BUFFER};
+    connection->waits_for = EPOLLIN;
+    connection->heard = now;
+    if (watch(fd, EPOLL_CTL_ADD, EPOLLIN, connection) != 0 || open_stream(connection) != IWARP_OK) {
+        printf("a connection was refused: no room\n");
+        connection->failed = 1;
+        leave(connection);
+        return;
+    }
+    int32_t code = equip(connection);
+    if (code == IWARP_OK) return;
+    give_up(connection, code);
+    finish(connection);
 }
 
-static int bound(unsigned short port) {
-    struct sockaddr_in address = local_port(port);
-    socklen_t n = sizeof address;
-    int fd = socket(AF_INET, SOCK_STREAM | SOCK_NONBLOCK, 0);
-    if (fd < 0 || bind(fd, (struct sockaddr *)&address, n) != 0 || listen(fd, 128) != 0 ||
-        getsockname(fd, (struct sockaddr *)&address, &n) != 0)
-        exit(1);
-    printf("port %d\n", ntohs(address.sin_port));
-    fflush(0);
-    return fd;
-}
-
-/* Drops each connection of which nothing was heard for IDLE seconds. */
-static void drop_idle(int64_t now) {
-    for (int i = 0; i < MOST; i++)
-        if (connections[i].fd >= 0 && now - connections[i].heard > IDLE) {
-            connections[i].failed = 1;
-            finish(&connections[i]);
+/* Takes the connections that came, some at a time. */
+static void welcome(int64_t now) {
+    for (int i = 0; i < EVENTS && wants_more(); i++) {
+        int fd = accept(listener, 0, 0);
+        if (fd >= 0) {
+            begin(fd, now);
+        } else {
+            if (!is_for_later(errno)) resumes = now + 1;
+            return;
         }
+    }
+}
+
+/* Drops each connection of which nothing was heard for PATIENCE seconds. It looks once a second. */
+static void drop_silent(int64_t now) {
+    static int64_t looked;
+    if (looked == now) return;
+    looked = now;
+    for (uint32_t i = 0; i < added * PLACES; i++) {
+        struct connection *connection = &domains[i / PLACES].places[i % PLACES];
+        if (connection->carried.fd >= 0 && now - connection->heard > PATIENCE) {
+            tell_progress(&connection->carried);
+            connection->failed = 1;
+            finish(connection);
+        }
+    }
 }
 
 static void serve(void) {
     struct epoll_event events[EVENTS];
-    while (count == 0 || begun < count || live > 0) {
-        int64_t now = seconds();
-        set_listening((count == 0 || begun < count) && live < MOST && now >= resumes);
+    while (wants_more() || live > 0) {
+        set_listening(wants_more() && seconds() >= resumes);
         int n = epoll_wait(poller, events, EVENTS, 1000);
-        now = seconds();
+        int64_t now = seconds();
         if (n < 0 && errno != EINTR) exit(1);
         for (int i = 0; i < n; i++) {
-            struct connection *connection = events[i].data.ptr;
-            if (!connection)
-                begin(now);
-            else if (connection->waits_for == EPOLLOUT)
-                go_on(connection, now);
+            if (events[i].data.ptr)
+                attend(events[i].data.ptr, now);
             else
-                take(connection, now);
+                welcome(now);
         }
-        drop_idle(now);
+        drop_silent(now);
+        fflush(0);
     }
 }
 
-int main(int n, char **words) {
-    count = n > 1 ? (int)strtol(words[1], 0, 10) : 1;
-    options = n > 2 ? (uint32_t)strtol(words[2], 0, 10) : 0;
-    unsigned short port = n > 3 ? (unsigned short)strtol(words[3], 0, 10) : 0;
-    pooled = n > 4 ? (int)strtol(words[4], 0, 10) : 0;
-    if (count < 0 || pooled < 0 || pooled > 1024) return 2;
-    for (int i = 0; i < MOST; i++) connections[i].fd = -1;
+static const char usage[] =
+    "usage: target [COUNT [OPTIONS [PORT [BUFFERS [DOMAINS]]]]]\n"
+    "\n"
+    "Prints `port Q`, serves COUNT connections at that port of 127.0.0.1, and prints a line for each\n"
+    "Send that it received, and for each connection that failed, with the reason. The status is 1 if\n"
+    "one failed.\n"
+    "\n"
+    "  COUNT    how many connections are served, 1 if left out; 0 for connections without end\n"
+    "  OPTIONS  a sum of 1 for markers, 2 for CRCs and 4 for revision 2 of MPA; 0 if left out\n"
+    "  PORT     0, which it is if left out, for any port that is free\n"
+    "  BUFFERS  1 to 1024: the streams of a domain share so many receive buffers; 0 if left out:\n"
+    "           each stream has its own\n"
+    "  DOMAINS  1 to 255, 255 if left out: for each, 1024 connections are served at a time; each\n"
+    "           takes a descriptor (ulimit -n)\n";
+
+int main(int n, char **all) {
+    struct words words = words_of(n, all, 0, 5, usage);
+    count = number_of(&words, 0, 0, 1000000000, 1);
+    options = (uint32_t)number_of(&words, 1, 0, IWARP_MARKERS | IWARP_CRC | IWARP_ENHANCED, 0);
+    unsigned short port = (unsigned short)number_of(&words, 2, 0, 65535, 0);
+    pooled = (int)number_of(&words, 3, 0, MOST_BUFFERS, 0);
+    most = (uint32_t)number_of(&words, 4, 1, MOST_DOMAINS, MOST_DOMAINS);
     must(iwarp_buffer_new(0, &message), "buffer_new");
+    must(iwarp_new(&end), "new");
     poller = epoll_create1(0);
-    if (poller < 0) return 1;
-    open_end();
-    listener = bound(port);
+    listener = listen_at(port, SOCK_NONBLOCK);
+    if (poller < 0 || watch(listener, EPOLL_CTL_ADD, 0, 0) != 0) return 1;
     serve();
     close(listener);
     close(poller);

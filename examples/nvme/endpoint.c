@@ -48,18 +48,14 @@ int32_t endpoint_work(struct endpoint *endpoint, struct iwarp_event *event) {
     return code;
 }
 
-/* Puts the frames that are due one behind the other, until there are GATHERED octets. */
+/* Gathers the frames that are due, up to GATHERED octets. Where a Read of the peer's is denied, the Terminate is gathered too. */
 static int32_t gather(struct endpoint *endpoint) {
-    struct iwarp_emission emission = {.kind = IWARP_NOTHING};
-    uint8_t *at;
-    size_t n = 0;
+    struct iwarp_filling filling;
     do {
-        int32_t code = iwarp_emit_onto(endpoint->handle, endpoint->stream, &endpoint->out, &emission);
+        int32_t code = iwarp_fill(endpoint->handle, endpoint->stream, GATHERED, &endpoint->out, &filling);
         if (code != IWARP_OK) return code;
-        if (emission.kind == IWARP_DENIED) endpoint->ended = 1;
-        code = iwarp_buffer_at(&endpoint->out, &at, &n);
-        if (code != IWARP_OK) return code;
-    } while (emission.kind != IWARP_NOTHING && n < GATHERED);
+        if (filling.kind == IWARP_FILL_DENIED) endpoint->ended = 1;
+    } while (filling.kind == IWARP_FILL_DENIED);
     return IWARP_OK;
 }
 
