@@ -25,6 +25,11 @@ const TERMS: Terms = Terms {
     idle: 60,
 };
 
+// How many of these octets the socket takes.
+fn write_some(socket: &mut TcpStream, octets: &[u8]) -> usize {
+    socket.write(octets).unwrap_or(0)
+}
+
 /// A peer, and its end of a connection.
 #[derive(Drop)]
 struct Client {
@@ -72,13 +77,11 @@ impl Client {
     }
 
     fn write(&mut self) {
-        let left = self.peer.out.get(self.sent..).unwrap_or(&[]);
-        if left.is_empty() {
+        if self.sent >= self.peer.out.len() {
             return;
         }
-        if let Ok(n) = self.socket.write(left) {
-            self.sent = self.sent.saturating_add(n);
-        }
+        let n = write_some(&mut self.socket, &self.peer.out[self.sent..]);
+        self.sent = self.sent.saturating_add(n);
     }
 }
 
