@@ -49,8 +49,8 @@
  * iwarp_post_write_buffer, which allocate a few octets first, may too. Any other call that takes a buffer returns it only
  * if no other reason holds.
  *
- * A peer's mistake is never a return code: iwarp_work reports IWARP_FAULT, or iwarp_emit IWARP_DENIED, and that stream
- * has ended.
+ * A peer's mistake is never a return code: iwarp_work reports IWARP_FAULT, iwarp_emit IWARP_DENIED, or iwarp_fill
+ * IWARP_FILL_DENIED, and that stream has ended.
  *
  * A frame has its turn when all octets before it have been processed; messages complete only then, in order. The
  * in-order point is where the last frame that had its turn ends. A stream place is a count of octets, from the first
