@@ -569,7 +569,7 @@ struct iwarp_filling {
 /* Appends to a buffer what a stream is to send, frame by frame, until nothing is due, or one frame more would make what this call
  * appends more than `most` octets. A first frame is appended whatever its length, so 0 stands for one. The stream counts as sent
  * what was appended: write the buffer out whole and in order. What the socket took is dropped by iwarp_buffer_drop_front (or by
- * iwarp_buffer_truncate with 0, once it took all). Then call again: after IWARP_FILL_MORE the next frame is appended, after
+ * iwarp_buffer_truncate with 0, once it took all). Then call again: after IWARP_FILL_MORE what is due next is appended, after
  * IWARP_FILL_DENIED the Terminate. Frames before either stand in the buffer. A refusal means that nothing has changed, but that the
  * buffer's octets may stand at another address. It is the first that applies of IWARP_IS_CLOSED, IWARP_BUFFER_MISSING,
  * IWARP_NO_SUCH_STREAM, IWARP_TOO_FAR and IWARP_NO_MEMORY; the last comes only if no frame was appended. */
