@@ -13,3 +13,5 @@ pub mod Calls
 pub mod Limited
 pub mod Spared
 pub mod Unseen
+pub mod Emptying
+pub mod Settling

@@ -8,3 +8,5 @@ pub mod Reading
 pub mod Used
 pub mod Limited
 pub mod Copied
+pub mod Emptying
+pub mod Settling

@@ -2,6 +2,8 @@ ghost use Rattle.iw_endpoint.specs.Isolation.{CallsConcernOneDomain, DomainsAreA
 ghost use Rattle.iw_endpoint.specs.Limited.{LimitedRegionsAreApart, LimitedRegionsStayApart, LimitedRegionsAreHidden, StreamsKnowTheirNumbers};
 ghost use Rattle.iw_endpoint.specs.Copied.{RefusesCopiedOctets};
 ghost use Rattle.iw_endpoint.specs.Used.{NumbersAreUsedOnce};
+ghost use Rattle.iw_endpoint.specs.Emptying.{EmitComesToRest, KnownFrames, RefusesSentAgain};
+ghost use Rattle.iw_endpoint.specs.Settling.{WorkLeavesLess, KnownCalls, RefusesToldAgain};
 
 /// What a call answers, and how it changes the domain that it concerns, depend only on that domain's part of the
 /// endpoint. The parts of all other domains stay as they are.
@@ -54,4 +56,36 @@ pub fn refuses_copied_octets()
 /// After any list of calls to a new endpoint, each stream has the number that it was opened under.
 pub fn streams_know_their_numbers()
     ensures { StreamsKnowTheirNumbers }
+{}
+
+/// Each call to `emit` that has something to emit leaves fewer frames to go out. If nothing else is done at a stream, `emit`
+/// comes to rest, after no more frames than what was posted and what the peer asks for have octets, and some.
+pub fn emit_comes_to_rest()
+    ensures { EmitComesToRest }
+{}
+
+/// Frames that are left, counted by hand, before and after a Send of two octets goes out.
+pub fn known_frames()
+    ensures { KnownFrames }
+{}
+
+/// A step that emits a Send's frame and keeps the Send breaks the law.
+pub fn refuses_sent_again()
+    ensures { RefusesSentAgain }
+{}
+
+/// Each call to `work` that is not idle, and by which the stream does not end, leaves fewer calls to be done. If nothing else
+/// is done at a stream, `work` comes to rest, or the stream ends, after at most 1,074,270,466 calls.
+pub fn work_comes_to_rest()
+    ensures { WorkLeavesLess }
+{}
+
+/// Calls that are left, counted by hand, before and after the message that was sent is handed out.
+pub fn known_calls()
+    ensures { KnownCalls }
+{}
+
+/// A step that tells a message and keeps it breaks the law.
+pub fn refuses_told_again()
+    ensures { RefusesToldAgain }
 {}

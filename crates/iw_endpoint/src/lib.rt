@@ -123,9 +123,10 @@ pub use iw_stream::{
     StartupFault, Step,
 };
 pub use laws::{
-    calls_concern_one_domain, domains_are_alone, limited_regions_are_apart,
-    limited_regions_are_hidden, limited_regions_stay_apart, numbers_are_used_once,
-    refuses_copied_octets, streams_know_their_numbers,
+    calls_concern_one_domain, domains_are_alone, emit_comes_to_rest, known_calls, known_frames,
+    limited_regions_are_apart, limited_regions_are_hidden, limited_regions_stay_apart,
+    numbers_are_used_once, refuses_copied_octets, refuses_sent_again, refuses_told_again,
+    streams_know_their_numbers, work_comes_to_rest,
 };
 pub use refusal::{
     CallRefusal, LimitRefusal, NoSuchStream, NotAtRest, OpenNextRefusal, OpenSharedRefusal,
