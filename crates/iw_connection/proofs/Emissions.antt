@@ -1,7 +1,5 @@
 -- Frames one after another.
 use Rattle.std.proofs.Common.{◌≡◌, ℕ, zero, suc, ◌+◌, ◌<◌, ◌≤◌, true, false, List, [], ◌++◌, length, Option, Some, None, Result, Ok, Err, refl, sym, ap, subst, ◌∙◌, add-one, append_assoc, append-nil, arith, inl, inr}
-use Rattle.std.specs.Prelude.{IsSome}
-use Rattle.std.specs.Result.{result_err}
 use Rattle.std.proofs.lemmas.Bool.{true≢false}
 use borrow.Author.Count.{below_more}
 use Rattle.iw_stream.specs.declared.answer.Emission.{Emission}
@@ -111,11 +109,6 @@ fills_long old at number most n capacity before out s one long = record {
   ends = (refl, (omega (arith, one), inl (omega arith)));
   few = inr one;
 }
-
--- what is no value is a refusal
-pub err_is : {T E : Type 0} (r : Result T E) → ((x : T) → r ≡ Ok x → ⊥) → IsSome (result_err r)
-err_is (Ok x) other = absurd (other x refl)
-err_is (Err e) other = refl
 
 pub none_is : {T : Type 0} (o : Option T) → ((x : T) → o ≡ Some x → ⊥) → o ≡ None
 none_is None other = refl

@@ -1,5 +1,5 @@
 -- Steps of progress one after another.
-use Rattle.std.proofs.Common.{◌≡◌, ℕ, ◌+◌, true, List, Ok, refl, sym, ap, ◌∙◌, add-one, arith}
+use Rattle.std.proofs.Common.{◌≡◌, ℕ, ◌+◌, true, List, Result, Ok, Err, OnErr, refl, sym, ap, ◌∙◌, add-one, arith}
 use borrow.Author.Count.{below_more}
 use Rattle.iw_stream.specs.declared.answer.Step.{Step}
 use Rattle.iw_endpoint.specs.Endpoint.{EndpointState, step_at, after_work}
@@ -21,3 +21,7 @@ one_more old now new number n step p is left quiet =
       progress = below_more (λ k. progresses (step_at (after_steps k old number) number) ≡ true) n p.progress here;
       left = left ∙ ap (λ e. after_work e number) p.left ∙ sym (after_steps-more n old number);
     }
+
+pub on_err : {T E : Type 0} (r : Result T E) (P : Type 0) → P → OnErr r P
+on_err (Ok x) P p = tt
+on_err (Err e) P p = p

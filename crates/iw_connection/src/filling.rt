@@ -1,101 +1,109 @@
-ghost use Rattle.std.specs.Prelude.{◌≡◌, ◌<◌, ◌≤◌, ◌+◌, ◌++◌, length, None, Err, vec_len, vec_capacity};
+ghost use Rattle.std.specs.Prelude.{◌≡◌, ◌<◌, ◌≤◌, ◌+◌, ◌^◌, ◌++◌, length, true, None, Err, vec_len, vec_capacity};
 ghost use Rattle.std.specs.Prelude.{IfOk, IfErr, IfSome, IfNone, OnOk, OnErr};
 ghost use Rattle.std.specs.Result.{result_err};
 ghost use Rattle.iw_stream.specs.Stream.{BeginsReads, IsNothing, due};
-ghost use Rattle.iw_endpoint.specs.Endpoint.{stream_at, emission_at, emitted_at, after_emit};
+ghost use Rattle.iw_endpoint.specs.Endpoint.{has_stream, stream_at, sent_at, emission_at, emitted_at, after_emit};
 ghost use Rattle.iw_connection.specs.Filling.{fill_refusal, Fills, FillsTo, Goes, Stopped};
 
 use crate::StreamNumber;
 use crate::working::Refusal;
 use iw_endpoint::{CallRefusal, Emission, Endpoint, Fault, MAX_PLACE};
-use std::alloc::Allocator;
+use std::alloc::{AllocError, Allocator};
 
 /// Where [`fill`] stopped.
 #[derive(Clone, Copy, Debug, PartialEq, Eq)]
 pub enum Filled {
     /// Nothing more is due.
     All,
-    /// Frames were appended, and the next is held back: it would be one too many, or there was no memory for it. The next
-    /// call appends it, or tells why not.
+    /// Frames were appended, and more may be due: the next frame would be one too many, or there was no memory for it. The
+    /// next call appends it, or tells why not. Behind a first frame that is longer than was asked for, it was not looked what
+    /// is next: nothing may be due.
     More,
     /// The peer may no longer read what it asked for: the stream has ended by this fault. The next call appends the
     /// Terminate.
     Fault(Fault),
 }
 
-// Whether anything may be emitted.
-fn may_emit<A: Allocator>(endpoint: &Endpoint<A>, number: StreamNumber) -> Result<(), Refusal>
-    ensures { result_err result ≡ fill_refusal endpoint.now number }
+// How many octets a stream emitted, if it may emit more.
+fn octets_sent<A: Allocator>(endpoint: &Endpoint<A>, number: StreamNumber) -> Result<u64, Refusal>
+    ensures refused { result_err result ≡ fill_refusal endpoint.now number }
+    ensures there { OnOk result (has_stream endpoint.now number ≡ true) }
+    ensures sent { IfOk result (λ sent. sent ≡ sent_at endpoint.now number) }
+    ensures few { IfOk result (λ sent. sent ≤ 2 ^ 62) }
 {
     match endpoint.sent(number) {
-        Ok(sent) if sent <= MAX_PLACE => Ok(()),
+        Ok(sent) if sent <= MAX_PLACE => Ok(sent),
         Ok(_) => Err(Refusal::TooFar),
         Err(_) => Err(Refusal::NoSuchStream),
     }
 }
 
-// Emits what is due, and tells where it stops, unless that is a frame.
+// Emits what is due, and tells where it stops, unless that is a frame. An `Err` means out of memory.
+#[inline(always)]
 fn emit<A: Allocator>(
     endpoint: &mut Endpoint<A>,
     number: StreamNumber,
     out: &mut Vec<u8, A>,
-) -> Result<Option<Filled>, Refusal>
+) -> Result<Option<Filled>, AllocError>
+    requires there { has_stream endpoint.old number ≡ true }
+    requires few { sent_at endpoint.old number ≤ 2 ^ 62 }
     ensures stopped { IfOk result (λ stopped. Stopped (emission_at endpoint.old number) stopped) }
     ensures out { OnOk result (out.new.items ≡ out.old.items ++ emitted_at endpoint.old number) }
     ensures after { OnOk result (endpoint.new ≡ after_emit endpoint.old number) }
-    ensures refused { IfSome (fill_refusal endpoint.old number) (λ refusal. result ≡ Err refusal) }
-    ensures memory { IfNone (fill_refusal endpoint.old number) (IfErr result (λ e. e ≡ Refusal.NoMemory)) }
-    ensures room { fill_refusal endpoint.old number ≡ None → vec_len out.old + length (emitted_at endpoint.old number) ≤ vec_capacity out.old
+    ensures room { vec_len out.old + length (emitted_at endpoint.old number) ≤ vec_capacity out.old
         → OnErr result (BeginsReads (stream_at endpoint.old number) (due (stream_at endpoint.old number))) }
     ensures err { OnErr result ((endpoint.new ≡ endpoint.old) × (out.new.items ≡ out.old.items)) }
 {
-    may_emit(endpoint, number)?;
     match endpoint.emit(number, out) {
         Ok(Emission::Frame { .. }) => Ok(None),
         Ok(Emission::Fetched { .. }) => Ok(None),
         Ok(Emission::Nothing) => Ok(Some(Filled::All)),
         Ok(Emission::Fault(fault)) => Ok(Some(Filled::Fault(fault))),
-        Err(CallRefusal::NoSuchStream) => Err(Refusal::NoSuchStream),
-        Err(CallRefusal::Refused(_)) => Err(Refusal::NoMemory),
+        Err(CallRefusal::NoSuchStream) => unreachable!(),
+        Err(CallRefusal::Refused(refused)) => Err(refused),
     }
 }
 
 // How many octets the next emission has, or at most has if that is enough to tell that they are no more than `rest`.
-fn due_within<A: Allocator>(
-    endpoint: &Endpoint<A>,
-    number: StreamNumber,
-    rest: usize,
-) -> Result<usize, Refusal>
-    ensures refused { result_err result ≡ fill_refusal endpoint.now number }
-    ensures most { IfOk result (λ most. length (emitted_at endpoint.now number) ≤ most) }
-    ensures over { IfOk result (λ most. rest < most → rest < length (emitted_at endpoint.now number)) }
-    ensures some { IfOk result (λ most. length (emitted_at endpoint.now number) ≡ 0 → IsNothing (emission_at endpoint.now number)) }
+#[inline(always)]
+fn due_within<A: Allocator>(endpoint: &Endpoint<A>, number: StreamNumber, rest: usize) -> usize
+    requires there { has_stream endpoint.now number ≡ true }
+    requires few { sent_at endpoint.now number ≤ 2 ^ 62 }
+    ensures most { length (emitted_at endpoint.now number) ≤ result }
+    ensures over { rest < result → rest < length (emitted_at endpoint.now number) }
+    ensures some { length (emitted_at endpoint.now number) ≡ 0 → IsNothing (emission_at endpoint.now number) }
 {
-    may_emit(endpoint, number)?;
-    let Ok(most) = endpoint.most_due(number) else {
-        return Err(Refusal::NoSuchStream);
-    };
-    if most <= rest {
-        return Ok(most);
+    match endpoint.most_due(number) {
+        Ok(most) if most <= rest => most,
+        Ok(_) => due_len(endpoint, number),
+        Err(_) => unreachable!(),
     }
+}
+
+fn due_len<A: Allocator>(endpoint: &Endpoint<A>, number: StreamNumber) -> usize
+    requires there { has_stream endpoint.now number ≡ true }
+    requires few { sent_at endpoint.now number ≤ 2 ^ 62 }
+    ensures { result ≡ length (emitted_at endpoint.now number) }
+{
     match endpoint.due_len(number) {
-        Ok(len) => Ok(len),
-        Err(_) => Err(Refusal::NoSuchStream),
+        Ok(len) => len,
+        Err(_) => unreachable!(),
     }
 }
 
 // Emits what is due, if it has at most `rest` octets and there is room for it. Tells where it stops, unless it is a frame.
+#[inline(always)]
 fn emit_within<A: Allocator>(
     endpoint: &mut Endpoint<A>,
     number: StreamNumber,
     out: &mut Vec<u8, A>,
     rest: usize,
 ) -> Option<Filled>
+    requires there { has_stream endpoint.old number ≡ true }
+    requires few { sent_at endpoint.old number ≤ 2 ^ 62 }
     ensures { Goes endpoint.old number rest out.old.items out.new.items (vec_capacity out.new) endpoint.new result }
 {
-    let Ok(most) = due_within(endpoint, number, rest) else {
-        return Some(Filled::More);
-    };
+    let most = due_within(endpoint, number, rest);
     if most > rest || out.reserve(most).is_err() {
         return Some(Filled::More);
     }
@@ -119,15 +127,19 @@ pub fn fill_frames<A: Allocator>(
         → OnErr result (BeginsReads (stream_at endpoint.old number) (due (stream_at endpoint.old number))) }
     ensures err { OnErr result ((endpoint.new ≡ endpoint.old) × (out.new.items ≡ out.old.items)) }
 {
+    let sent = octets_sent(endpoint, number)?;
     let begun = out.len();
     match emit(endpoint, number, out) {
         Ok(None) => {}
         Ok(Some(stopped)) => return Ok((0, stopped)),
-        Err(refusal) => return Err(refusal),
+        Err(_) => return Err(Refusal::NoMemory),
     }
     'frames: for n in 1..u64::MAX {
         let filled = out.len() - begun;
         if filled > most {
+            return Ok((n, Filled::More));
+        }
+        if filled as u64 > MAX_PLACE - sent {
             return Ok((n, Filled::More));
         }
         if let Some(stopped) = emit_within(endpoint, number, out, most - filled) {
@@ -139,7 +151,8 @@ pub fn fill_frames<A: Allocator>(
 }
 
 /// Appends to `out` what a stream is to send, frame by frame, until nothing is due or one frame more would make what this
-/// call appends more than `most` octets. A first frame is appended even if it is longer. No frame is cut.
+/// call appends more than `most` octets. A first frame is appended even if it is longer; then the answer is `More` whether
+/// anything else is due or not. No frame is cut.
 ///
 /// An `Err` comes only if no frame was appended, and changes nothing; what is refused behind a frame is answered `More`, and
 /// the next call meets it first. The first that applies is told: `NoSuchStream`; `TooFar`, if more than 2^62 octets were

@@ -1,6 +1,7 @@
-ghost use Rattle.std.specs.Prelude.{◌≡◌, Ok, Err, IfOk, IfErr, IfSome, IfNone, OnOk, OnErr};
+ghost use Rattle.std.specs.Prelude.{◌≡◌, ◌≤◌, ◌^◌, ◌⊎◌, true, None, Some, Ok, IfOk, IfErr, OnOk, OnErr};
+ghost use Rattle.std.specs.Result.{result_err};
 ghost use Rattle.iw_stream.specs.Kept.{IsWithinBuffer};
-ghost use Rattle.iw_endpoint.specs.Endpoint.{step_at, after_work};
+ghost use Rattle.iw_endpoint.specs.Endpoint.{has_stream, point_at, step_at, after_work};
 ghost use Rattle.iw_connection.specs.Steps.{is_progress, work_refusal, TriesAt, GoesTo, Stops, StopsFor};
 
 use crate::StreamNumber;
@@ -45,27 +46,66 @@ pub fn is_progress<A: Allocator>(step: &Step<Octets<A>>) -> bool
     }
 }
 
-// Does one step.
+// By how much a step moves the in-order point at most: by the window.
+const MOST_MOVED: u64 = 1 << 18;
+
+// Where the in-order point is, if a step may be done.
+fn point<A: Allocator>(endpoint: &Endpoint<A>, number: StreamNumber) -> Result<u64, Refusal>
+    ensures refused { result_err result ≡ work_refusal endpoint.now number }
+    ensures there { OnOk result (has_stream endpoint.now number ≡ true) }
+    ensures point { IfOk result (λ point. point_at endpoint.now number ≤ point) }
+    ensures near { IfOk result (λ point. point ≤ 2 ^ 62) }
+{
+    match endpoint.in_order_point(number) {
+        Ok(point) if point <= MAX_PLACE => Ok(point),
+        Ok(_) => Err(Refusal::TooFar),
+        Err(_) => Err(Refusal::NoSuchStream),
+    }
+}
+
+// The same, given a place that the point is not past: it is looked up only if that is too far.
+#[inline(always)]
+fn point_within<A: Allocator>(
+    endpoint: &Endpoint<A>,
+    number: StreamNumber,
+    reach: u64,
+) -> Result<u64, Refusal>
+    requires { point_at endpoint.now number ≤ reach }
+    ensures refused { IfErr result (λ refusal. work_refusal endpoint.now number ≡ Some refusal) }
+    ensures point { IfOk result (λ point. point_at endpoint.now number ≤ point) }
+    ensures near { IfOk result (λ point. point ≤ 2 ^ 62) }
+{
+    if reach <= MAX_PLACE {
+        return Ok(reach);
+    }
+    point(endpoint, number)
+}
+
+// Does one step. The in-order point is not past `reach`, before it and after it.
+#[inline(always)]
 fn step<A: Allocator>(
     endpoint: &mut Endpoint<A>,
     number: StreamNumber,
+    reach: &mut u64,
 ) -> Result<Step<Octets<A>>, Refusal>
-    ensures refused { IfSome (work_refusal endpoint.old number) (λ refusal. result ≡ Err refusal) }
-    ensures memory { IfNone (work_refusal endpoint.old number) (IfErr result (λ e. (e ≡ Refusal.NoMemory) × TriesAt endpoint.old number)) }
+    requires there { has_stream endpoint.old number ≡ true }
+    requires reach { point_at endpoint.old number ≤ reach.old }
+    ensures why { IfErr result (λ refusal. (work_refusal endpoint.old number ≡ Some refusal)
+        ⊎ ((work_refusal endpoint.old number ≡ None) × (refusal ≡ Refusal.NoMemory) × TriesAt endpoint.old number)) }
     ensures step { IfOk result (λ step. Ok step ≡ step_at endpoint.old number) }
     ensures ok { OnOk result (endpoint.new ≡ after_work endpoint.old number) }
+    ensures there { OnOk result (has_stream endpoint.new number ≡ true) }
+    ensures reach { OnOk result (point_at endpoint.new number ≤ reach.new) }
     ensures within { IfOk result IsWithinBuffer }
     ensures err { OnErr result (endpoint.new ≡ endpoint.old) }
 {
-    let Ok(point) = endpoint.in_order_point(number) else {
-        return Err(Refusal::NoSuchStream);
-    };
-    if point > MAX_PLACE {
-        return Err(Refusal::TooFar);
-    }
+    let near = point_within(endpoint, number, *reach)?;
     match endpoint.work(number) {
-        Ok(step) => Ok(step),
-        Err(CallRefusal::NoSuchStream) => Err(Refusal::NoSuchStream),
+        Ok(step) => {
+            *reach = near + MOST_MOVED;
+            Ok(step)
+        }
+        Err(CallRefusal::NoSuchStream) => unreachable!(),
         Err(CallRefusal::Refused(_)) => Err(Refusal::NoMemory),
     }
 }
@@ -86,8 +126,9 @@ pub fn next<A: Allocator>(
     ensures err { OnErr result (Stops endpoint.old number endpoint.new) }
     ensures why { IfErr result (λ refusal. StopsFor endpoint.old number endpoint.new refusal) }
 {
+    let mut reach = point(endpoint, number)?;
     'steps: for n in 0..u64::MAX {
-        match step(endpoint, number) {
+        match step(endpoint, number, &mut reach) {
             Ok(step) if is_progress(&step) => {}
             Ok(step) => return Ok(step),
             Err(refusal) => return Err(refusal),
