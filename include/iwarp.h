@@ -70,6 +70,12 @@ typedef __INT32_TYPE__ int32_t;
 typedef __UINT64_TYPE__ uint64_t;
 #endif
 
+/* (Three functions have the name of a struct, which g++ -Wshadow would warn of.) */
+#if defined(__cplusplus) && defined(__GNUC__) && !defined(__clang__)
+#pragma GCC diagnostic push
+#pragma GCC diagnostic ignored "-Wshadow"
+#endif
+
 #ifdef __cplusplus
 extern "C" {
 #endif
@@ -162,7 +168,8 @@ int32_t iwarp_add_domain(struct iwarp *handle, uint32_t pd);
 /* ---- buffers */
 
 /* Makes a buffer of `n` zero octets. They can become a region, a receive buffer or a message and come back, with nothing
- * copied: they stay at their address until they are freed, or iwarp_fill or iwarp_emit_onto is called with the buffer. */
+ * copied: they stay at their address until they are freed, or iwarp_fill or iwarp_emit_onto is called with the buffer. The room
+ * that they take stays when iwarp_buffer_truncate or iwarp_buffer_drop_front makes them fewer. */
 int32_t iwarp_buffer_new(size_t n, struct iwarp_buffer *buffer);
 
 /* Frees the buffer's octets: then it is IWARP_NO_BUFFER. A second call does nothing. */
@@ -336,7 +343,8 @@ int32_t iwarp_break(struct iwarp *handle, uint32_t stream);
 
 /* Forgets a stream and frees its memory. The stream must be at rest: it has ended, iwarp_work reports IWARP_IDLE, and
  * iwarp_emit IWARP_NOTHING; iwarp_break drops what is left to emit. What it handed back and was not fetched is freed. Its
- * number stays taken, and each later call on it returns IWARP_NO_SUCH_STREAM, but that there is nothing to fetch. */
+ * number stays taken: a later call on it returns IWARP_NO_SUCH_STREAM, but iwarp_fetch, iwarp_fetch_buffer and
+ * iwarp_fetch_sent fetch nothing. */
 int32_t iwarp_close(struct iwarp *handle, uint32_t stream);
 
 /* Sets the maximum ULPDU of the frames that a stream emits from then on, 128 to 64,512 octets. It is 1,400 at first. */
@@ -362,9 +370,9 @@ int32_t iwarp_post_write(struct iwarp *handle, uint32_t stream, uint32_t stag, u
 
 /* Posts a Send of the buffer's octets themselves, as iwarp_post_send does of a copy: nothing is copied, and the buffer has none
  * then. It keeps memory for as many octets, which is not written, for when they come back. Once IWARP_DONE or IWARP_FLUSHED tells
- * of this message, iwarp_fetch_sent moves them back into a buffer. If the call is refused, the buffer keeps them, but for one
- * case: if it has none after IWARP_NO_MEMORY, then there was no memory to move them back, and iwarp_fetch_sent still does, in
- * place of those that it would have moved. */
+ * of this message, iwarp_fetch_sent moves them back into a buffer. If the call is refused, the buffer keeps its octets. Only after
+ * IWARP_NO_MEMORY may it have none: the library had no memory to give them back. Then they wait at the stream, in place of what
+ * iwarp_fetch_sent would have moved, and that call moves them into a buffer. */
 int32_t iwarp_post_send_buffer(struct iwarp *handle, uint32_t stream, struct iwarp_buffer *buffer, uint32_t flags, uint32_t stag,
                                uint64_t token);
 
@@ -437,9 +445,10 @@ int32_t iwarp_deliver(struct iwarp *handle, uint32_t stream, uint32_t number, co
  * octets, the same to all such streams; what comes is dropped. */
 int32_t iwarp_room(struct iwarp *handle, uint32_t stream, size_t want, uint8_t **at, size_t *n);
 
-/* Takes the first `n` octets of the place that is lent at this stream, as iwarp_deliver does those past the last octet that came.
- * None of them is dropped, unless the stream has ended. No place is lent then. IWARP_NOT_LENT: `n` is 0, or more than are lent;
- * none are if the place was taken back, and what was written there is lost. */
+/* Tells the library that the program read `n` octets to the front of the place that is lent at this stream. They come right behind
+ * the last octet that came, so no sequence number is needed. None of them is dropped, unless the stream has ended. The place is then
+ * no longer lent. IWARP_NOT_LENT: `n` is 0, or more than are lent; if the place was taken back none are, and what was written there
+ * is lost. */
 int32_t iwarp_came(struct iwarp *handle, uint32_t stream, size_t n);
 
 /* What a step of work did. */
@@ -512,9 +521,9 @@ int32_t iwarp_fetch_buffer(struct iwarp *handle, uint32_t stream, struct iwarp_b
  * from a buffer, and forgets them: the same octets, whole. The octets that the buffer had are freed. If that message was not
  * posted from a buffer, or its octets were fetched, the buffer has none then. With the next IWARP_DONE or IWARP_FLUSHED on the
  * stream, octets that were not fetched are freed. After IWARP_NO_MEMORY they can still be fetched. The octets stay at their
- * address, and none is written: fill them there and post the buffer again. A call by which such octets become a region or a
- * receive buffer, iwarp_fill and iwarp_emit_onto first write each onto itself, once, which takes longer than a copy: so keep
- * buffers for messages apart from those for regions and for frames. */
+ * address, and none is written: fill them there and post the buffer again. If instead they become a region or a receive buffer,
+ * or iwarp_fill or iwarp_emit_onto is called with the buffer, the library first rewrites all of them in place, once, which takes
+ * longer than a copy: so keep buffers for messages apart from those for regions and for frames. */
 int32_t iwarp_fetch_sent(struct iwarp *handle, uint32_t stream, struct iwarp_buffer *buffer);
 
 /* What a call of iwarp_emit did. */
@@ -545,7 +554,8 @@ int32_t iwarp_emit(struct iwarp *handle, uint32_t stream, uint8_t *out, size_t r
 
 /* Emits the next frame of a stream behind the octets of a buffer, so that several frames can be written by one call. Once
  * they are written, iwarp_buffer_truncate with 0 leaves the memory for the next. The buffer's octets may stand at another
- * address then, also if the call returns IWARP_NO_MEMORY. */
+ * address then, also if the call returns IWARP_NO_MEMORY. That comes only if the buffer has no room for what is due, or a Read is
+ * begun while none is outstanding. */
 int32_t iwarp_emit_onto(struct iwarp *handle, uint32_t stream, struct iwarp_buffer *buffer, struct iwarp_emission *emission);
 
 /* Where a call of iwarp_fill stopped. */
@@ -572,7 +582,8 @@ struct iwarp_filling {
  * iwarp_buffer_truncate with 0, once it took all). Then call again: after IWARP_FILL_MORE what is due next is appended, after
  * IWARP_FILL_DENIED the Terminate. Frames before either stand in the buffer. A refusal means that nothing has changed, but that the
  * buffer's octets may stand at another address. It is the first that applies of IWARP_IS_CLOSED, IWARP_BUFFER_MISSING,
- * IWARP_NO_SUCH_STREAM, IWARP_TOO_FAR and IWARP_NO_MEMORY; the last comes only if no frame was appended. */
+ * IWARP_NO_SUCH_STREAM, IWARP_TOO_FAR and IWARP_NO_MEMORY; the last comes only if no frame was appended, and the buffer has no
+ * room for the first, or that begins a Read while none is outstanding. */
 int32_t iwarp_fill(struct iwarp *handle, uint32_t stream, size_t most, struct iwarp_buffer *buffer, struct iwarp_filling *filling);
 
 /* Tells whether iwarp_emit has anything to report: `*wants` is 0 if it would report IWARP_NOTHING, else 1. A program waits for
@@ -673,6 +684,10 @@ static inline const char *iwarp_fault_text(uint32_t layer, uint32_t error, uint3
 
 #ifdef __cplusplus
 }
+#endif
+
+#if defined(__cplusplus) && defined(__GNUC__) && !defined(__clang__)
+#pragma GCC diagnostic pop
 #endif
 
 #endif

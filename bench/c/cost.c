@@ -2,16 +2,18 @@
  * median of many rounds of each, in processor time. The status is 1 if a limit is missed. */
 #define _POSIX_C_SOURCE 199309L
 #include "../../include/iwarp.h"
+#include <malloc.h>
 #include <stdio.h>
 #include <stdlib.h>
 #include <string.h>
 #include <time.h>
 
-enum { CALLS = 200000, ROUNDS = 101, MESSAGES = 200, REGION = 65536, MOST_MORE_NS = 20, MOST_MORE_PERCENT = 3 };
+enum { CALLS = 200000, ROUNDS = 101, MESSAGES = 2000, REGION = 65536, MOST_MORE_NS = 20, MOST_MORE_PERCENT = 3 };
+enum { STREAM = 0, PEERS_STAG = 1 << 24 };
 
-uint64_t handle_bench_idle(uint64_t calls);
-uint64_t handle_bench_write(const uint8_t *frames, size_t n, uint64_t writes);
-uint64_t handle_bench_send(_Bool is_send, const uint8_t *octets, size_t n, uint64_t messages);
+uint64_t handle_bench_idle(uint32_t stream, uint64_t calls);
+uint64_t handle_bench_write(uint32_t stream, const uint8_t *frames, size_t n, uint64_t writes);
+uint64_t handle_bench_send(uint32_t stream, size_t most, _Bool is_send, const uint8_t *octets, size_t n, uint64_t messages);
 
 static uint8_t octets[REGION], written[REGION], frames[2 * REGION], frame[66000];
 
@@ -30,17 +32,24 @@ static void must(int is_so, const char *what) {
     exit(2);
 }
 
-static void opened(struct iwarp *end, uint32_t *stag) {
+static void opened(struct iwarp *end) {
     iwarp_new(end);
     iwarp_add_domain(end, 1);
-    iwarp_register(end, 1, 0, octets, REGION, IWARP_WRITE, stag);
-    must(iwarp_open(end, 0, 1, IWARP_PRESET, 0, octets, 0) == IWARP_OK, "open");
+    must(iwarp_open(end, STREAM, 1, IWARP_PRESET, 0, octets, 0) == IWARP_OK, "open");
+}
+
+/* With a region that the peer may write. Returns its STag. */
+static uint32_t opened_to_writes(struct iwarp *end) {
+    uint32_t stag;
+    opened(end);
+    must(iwarp_register(end, 1, 0, octets, REGION, IWARP_WRITE, &stag) == IWARP_OK, "register");
+    return stag;
 }
 
 /* Works until there is nothing to do. */
 static void work_off(struct iwarp *end, working *work) {
     struct iwarp_event event;
-    while (work(end, 0, &event) == IWARP_OK && event.kind != IWARP_IDLE) {}
+    while (work(end, STREAM, &event) == IWARP_OK && event.kind != IWARP_IDLE) {}
 }
 
 /* ---- a call with nothing to do */
@@ -48,10 +57,9 @@ static void work_off(struct iwarp *end, working *work) {
 static double idle_in_c(void) {
     struct iwarp end = IWARP_CLOSED;
     struct iwarp_event event;
-    uint32_t stag;
-    opened(&end, &stag);
+    opened(&end);
     double from = now();
-    for (int i = 0; i < CALLS; i++) iwarp_work(&end, 0, &event);
+    for (int i = 0; i < CALLS; i++) iwarp_work(&end, STREAM, &event);
     double took = now() - from;
     iwarp_free(&end);
     return took / CALLS;
@@ -59,7 +67,7 @@ static double idle_in_c(void) {
 
 static double idle_in_rattle(void) {
     double from = now();
-    handle_bench_idle(CALLS);
+    handle_bench_idle(STREAM, CALLS);
     return (now() - from) / CALLS;
 }
 
@@ -69,11 +77,11 @@ static double idle_in_rattle(void) {
 static double writes_in_c(size_t n, working *work) {
     static uint8_t placed[REGION];
     struct iwarp end = IWARP_CLOSED;
-    uint32_t stag, kept;
+    uint32_t kept;
     double from = now();
-    opened(&end, &stag);
+    uint32_t stag = opened_to_writes(&end);
     for (uint64_t i = 0; i < MESSAGES; i++) {
-        iwarp_deliver(&end, 0, (uint32_t)(i * n), frames, n, &kept);
+        iwarp_deliver(&end, STREAM, (uint32_t)(i * n), frames, n, &kept);
         work_off(&end, work);
     }
     double took = now() - from;
@@ -84,7 +92,7 @@ static double writes_in_c(size_t n, working *work) {
 
 static double writes_in_rattle(size_t n) {
     double from = now();
-    must(handle_bench_write(frames, n, MESSAGES) > 0, "nothing was placed in Rattle");
+    must(handle_bench_write(STREAM, frames, n, MESSAGES) == MESSAGES * n, "other octets had their turn in Rattle");
     return (now() - from) / MESSAGES;
 }
 
@@ -92,12 +100,11 @@ static double writes_in_rattle(size_t n) {
 static size_t emitted(void) {
     struct iwarp end = IWARP_CLOSED;
     struct iwarp_emission emission;
-    uint32_t stag;
     size_t n, all = 0;
-    opened(&end, &stag);
+    uint32_t stag = opened_to_writes(&end);
     for (int i = 0; i < REGION; i++) written[i] = (uint8_t)(i * 31 >> 3);
-    iwarp_post_write(&end, 0, stag, 0, written, REGION, 0);
-    while (iwarp_emit(&end, 0, frame, sizeof frame, &n, &emission) == IWARP_OK && emission.kind == IWARP_FRAME) {
+    iwarp_post_write(&end, STREAM, stag, 0, written, REGION, 0);
+    while (iwarp_emit(&end, STREAM, frame, sizeof frame, &n, &emission) == IWARP_OK && emission.kind == IWARP_FRAME) {
         memcpy(frames + all, frame, n);
         all += n;
     }
@@ -110,16 +117,16 @@ static size_t emitted(void) {
 /* How a message is posted: its octets are copied, or the buffer's own. */
 enum posting { COPIED_WRITE, COPIED_SEND, WRITE, SEND };
 
-static int32_t post(struct iwarp *end, enum posting posting, uint32_t stag, struct iwarp_buffer *payload) {
+static int32_t post(struct iwarp *end, enum posting posting, struct iwarp_buffer *payload) {
     switch (posting) {
     case COPIED_WRITE:
-        return iwarp_post_write(end, 0, stag, 0, written, REGION, 0);
+        return iwarp_post_write(end, STREAM, PEERS_STAG, 0, written, REGION, 0);
     case COPIED_SEND:
-        return iwarp_post_send(end, 0, written, REGION, 0, 0, 0);
+        return iwarp_post_send(end, STREAM, written, REGION, 0, 0, 0);
     case WRITE:
-        return iwarp_post_write_buffer(end, 0, stag, 0, payload, 0);
+        return iwarp_post_write_buffer(end, STREAM, PEERS_STAG, 0, payload, 0);
     default:
-        return iwarp_post_send_buffer(end, 0, payload, 0, 0, 0);
+        return iwarp_post_send_buffer(end, STREAM, payload, 0, 0, 0);
     }
 }
 
@@ -129,7 +136,7 @@ typedef size_t emitting(struct iwarp *, struct iwarp_buffer *);
 static size_t emit_all(struct iwarp *end, struct iwarp_buffer *out) {
     struct iwarp_filling filling;
     iwarp_buffer_truncate(out, 0);
-    must(iwarp_fill(end, 0, SIZE_MAX, out, &filling) == IWARP_OK && filling.kind == IWARP_FILL_ALL, "fill");
+    must(iwarp_fill(end, STREAM, SIZE_MAX, out, &filling) == IWARP_OK && filling.kind == IWARP_FILL_ALL, "fill");
     return (size_t)filling.n;
 }
 
@@ -139,7 +146,7 @@ static size_t emit_each(struct iwarp *end, struct iwarp_buffer *out) {
     uint8_t *at;
     size_t n;
     iwarp_buffer_truncate(out, 0);
-    while (iwarp_emit_onto(end, 0, out, &emission) == IWARP_OK && emission.kind == IWARP_FRAME) {}
+    while (iwarp_emit_onto(end, STREAM, out, &emission) == IWARP_OK && emission.kind == IWARP_FRAME) {}
     iwarp_buffer_at(out, &at, &n);
     return n;
 }
@@ -147,17 +154,16 @@ static size_t emit_each(struct iwarp *end, struct iwarp_buffer *out) {
 static double sends_in_c(enum posting posting, emitting *emit, uint64_t *emitted) {
     struct iwarp end = IWARP_CLOSED;
     struct iwarp_buffer out = IWARP_NO_BUFFER, payload = IWARP_NO_BUFFER;
-    uint32_t stag;
     double from = now();
-    opened(&end, &stag);
+    opened(&end);
     iwarp_buffer_new(0, &out);
     iwarp_buffer_new(REGION, &payload);
     *emitted = 0;
     for (int i = 0; i < MESSAGES; i++) {
-        must(post(&end, posting, stag, &payload) == IWARP_OK, "post");
+        must(post(&end, posting, &payload) == IWARP_OK, "post");
         *emitted += emit(&end, &out);
         work_off(&end, iwarp_work_on);
-        if (posting == WRITE || posting == SEND) must(iwarp_fetch_sent(&end, 0, &payload) == IWARP_OK, "fetch_sent");
+        if (posting == WRITE || posting == SEND) must(iwarp_fetch_sent(&end, STREAM, &payload) == IWARP_OK, "fetch_sent");
     }
     iwarp_buffer_free(&payload);
     iwarp_buffer_free(&out);
@@ -167,7 +173,7 @@ static double sends_in_c(enum posting posting, emitting *emit, uint64_t *emitted
 
 static double sends_in_rattle(_Bool is_send, uint64_t emitted) {
     double from = now();
-    must(handle_bench_send(is_send, written, REGION, MESSAGES) == emitted, "other octets were emitted in Rattle");
+    must(handle_bench_send(STREAM, SIZE_MAX, is_send, written, REGION, MESSAGES) == emitted, "other octets were emitted in Rattle");
     return (now() - from) / MESSAGES;
 }
 
@@ -207,6 +213,9 @@ static int tell_calls(double *c, double *rattle) {
 }
 
 int main(void) {
+    /* No round is to pay for pages that another gave back. */
+    mallopt(M_TRIM_THRESHOLD, 1 << 30);
+    mallopt(M_MMAP_THRESHOLD, 1 << 30);
     static double idle[ROUNDS], idle_rattle[ROUNDS], stepwise[ROUNDS], at_once[ROUNDS], write_rattle[ROUNDS];
     static double sent[SEND + 1][ROUNDS], each[ROUNDS], sent_rattle[2][ROUNDS];
     size_t n = emitted();

@@ -1,6 +1,6 @@
 /* An initiator: it writes a text into the region that its peer offers, sends the text too, and prints what is sent back.
- * `initiator --help` says how it is run. `iwarp listen` is its peer, but for IWARP_ENHANCED and IWARP_PEER_TO_PEER, and so is
- * `target`. */
+ * `initiator --help` says how it is run. `target` is its peer, and so is `iwarp listen`, which takes revision 2 of MPA with its
+ * option `--enhanced`. */
 #include "waiting.h"
 
 enum { DOMAIN = 1, STREAM = 0, BUFFER = 4096 };

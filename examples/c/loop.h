@@ -1,4 +1,4 @@
-/* The loop of one stream over a socket that does not wait (docs/EMBEDDING.md). What a program does at the steps of its stream is
+/* The loop of one stream over a socket that does not wait (docs/EMBEDDING-C.md). What a program does at the steps of its stream is
  * its own: it has a function `act_on`. No call of it waits, and none loses an octet, whatever is refused. */
 #ifndef LOOP_H
 #define LOOP_H

@@ -1,5 +1,5 @@
 /* A region that is offered to a peer, looked at and withdrawn, and a receive buffer that is posted again for each message, as
- * docs/EMBEDDING.md shows them: two ends in one process. Prints what came, and what was written. */
+ * docs/EMBEDDING-C.md shows them: two ends in one process. Prints what came, and what was written. */
 #include "host.h"
 
 enum { DOMAIN = 1, STREAM = 0, LENGTH = 16 };

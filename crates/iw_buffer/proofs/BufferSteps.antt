@@ -29,6 +29,7 @@ use Rattle.std.specs.contracts.alloc.Global as heap
 use Rattle.std.proofs.alloc.Global.TheLaws as heap_laws
 use Rattle.std.specs.contracts.impls.GlobalAllocator.TheImpl.{ghosts}
 use Rattle.iw_buffer.proofs.contents.Contents.TheLaws as contents_laws
+use Rattle.iw_buffer.specs.Octets.{Stored}
 use Rattle.iw_buffer.specs.Ownership.{contents_row, buffer_owns}
 use Rattle.iw_buffer.specs.contracts.buffer.Buffer as buffer
 use Rattle.iw_buffer.specs.contracts.parts.Parts as parts
@@ -48,14 +49,14 @@ Buffer = buffer.the_row
 
 module _ {M : Type 1} {𝓤 : Ura M} {𝓛 : Logic 𝓤} {K : Type 0} {Γ : List (Item 𝓤)} {G : Goal 𝓤 𝓛.H} where
   pub buffer_out : K → (d : Buffer.Denot) (vs : List Val)
-      → ((h : Val) → vs ≡ both (ptr_val d.at) h ∷ [] → Good (layout Z) h → Seq K 𝓛 (‵ (buffer_owns d.alloc d.at d.state) ∷ ‵ (Z.own_val d.alloc (h ∷ [])) ∷ Γ) G)
+      → ((h : Val) → vs ≡ both (ptr_val d.at) h ∷ [] → Good (layout Z) h → Seq K 𝓛 (‵ (buffer_owns d.alloc d.at d.state d.room) ∷ ‵ (Z.own_val d.alloc (h ∷ [])) ∷ Γ) G)
       → Seq K 𝓛 (‵ (Buffer.own_val d vs) ∷ Γ) G
   buffer_out t d vs k =
       fsplit t $ fpick t (λ vss. fsplit t $ feq_l t (λ ev. fsplit t $ feq_l t (λ ep. fsplit t $ handle_tells al t d.alloc vss.1.0 (λ h ea fits. move t (1 ∷ []) $ drop t $ move t (1 ∷ []) $ k h
       (subst (λ (ws : List Val). vs ≡ vstruct (of_list (ptr_val d.at ∷ (ws ++ []))) ∷ []) ea (subst (λ (ps : List Val). vs ≡ vstruct (of_list (ps ++ (vss.1.0 ++ []))) ∷ []) ep ev)) fits))))
 
   pub buffer_in : K → (d : Buffer.Denot) (h : Val)
-      → Step K 𝓛 (‵ (Buffer.own_val d (both (ptr_val d.at) h ∷ [])) ∷ Γ) G (‵ (buffer_owns d.alloc d.at d.state) ∷ ‵ (Z.own_val d.alloc (h ∷ [])) ∷ Γ) G
+      → Step K 𝓛 (‵ (Buffer.own_val d (both (ptr_val d.at) h ∷ [])) ∷ Γ) G (‵ (buffer_owns d.alloc d.at d.state d.room) ∷ ‵ (Z.own_val d.alloc (h ∷ [])) ∷ Γ) G
   buffer_in t d h = step (λ s. let v : Val = both (ptr_val d.at) h in
       nothing t $ move t (2 ∷ 0 ∷ []) $ fjoin t $ feq_i t (List Val) (ptr_val d.at ∷ []) (ptr_val d.at ∷ []) refl $ fjoin t $ feq_i t (List Val) (v ∷ []) (v ∷ []) refl $ fjoin t $
       fpack t (Valss (RawPtr ∷ Z ∷ [])) (within (shape buffer.the_type) (to buffer.the_type d) (v ∷ [])) (ptr_val d.at ∷ [], (h ∷ [], tt)) $ fjoin t $ s)
@@ -73,18 +74,19 @@ abbrev pub FromBuffer : Slot 0
 FromBuffer = plain (λ _. Buffer)
 
 module _ {M : Type 1} {𝓤 : Ura M} (𝓛 : Logic 𝓤) (a : Global) where
-  pub tested : (p : Ptr) (x : List ℕ) → ent 𝓤 (sem 𝓛 (box_owns (ghosts.dealloc_token a) contents_row p x)) (guard 𝓤 (Testable p) (sem 𝓛 (box_owns (ghosts.dealloc_token a) contents_row p x)))
+  pub tested : (p : Ptr) (x : Stored) → ent 𝓤 (sem 𝓛 (box_owns (ghosts.dealloc_token a) contents_row p x)) (guard 𝓤 (Testable p) (sem 𝓛 (box_owns (ghosts.dealloc_token a) contents_row p x)))
   tested p x = let Owned : SProp 𝓤 = sem 𝓛 (box_owns (ghosts.dealloc_token a) contents_row p x) in
       fact_use 𝓤 (Testable p) (via 𝓤 _ (snd∗ 𝓤 (sem 𝓛 (lies_at contents_row full_share p x)) (sem 𝓛 (ghosts.dealloc_token a (bare (lone contents_row.mir)) p)))
       (dealloc_token-Testable 𝓛 a (bare (lone contents_row.mir)) p)) (guard_i 𝓤 (Testable p) Owned)
 
 -- what a buffer owns is nothing, at null, or what it has in a block whose pointer may be compared with null
 module _ {M : Type 1} {𝓤 : Ura M} {𝓛 : Logic 𝓤} {K : Type 0} {Γ : List (Item 𝓤)} {G : Goal 𝓤 𝓛.H} where
-  pub owned_tested : K → (a : Global) (p : Ptr) (s : Option (List ℕ))
+  pub owned_tested : K → (a : Global) (p : Ptr) (s : Option (List ℕ)) (room : ℕ)
       → (p ≡ null_ptr → s ≡ None → Seq K 𝓛 Γ G)
-      → ((b o : ℕ) (x : List ℕ) → p ≡ block_ptr b o → s ≡ Some x → Testable (block_ptr b o) → Seq K 𝓛 (‵ (box_owns (ghosts.dealloc_token a) contents_row (block_ptr b o) x) ∷ Γ) G)
-      → Seq K 𝓛 (‵ (buffer_owns a p s) ∷ Γ) G
-  owned_tested t a p None at_none at_some = feq_l t (λ is. at_none is refl)
-  owned_tested t a p (Some x) at_none at_some =
+      → ((b o : ℕ) (x : Stored) → p ≡ block_ptr b o → s ≡ Some x.octets → room ≡ x.room → Testable (block_ptr b o) → Seq K 𝓛 (‵ (box_owns (ghosts.dealloc_token a) contents_row (block_ptr b o) x) ∷ Γ) G)
+      → Seq K 𝓛 (‵ (buffer_owns a p s room) ∷ Γ) G
+  owned_tested t a p None room at_none at_some = feq_l t (λ is. at_none is refl)
+  owned_tested t a p (Some octets) room at_none at_some =
+      let x : Stored = record { octets = octets; room = room } in
       in_a_block t p (λ q. box_owns (ghosts.dealloc_token a) contents_row q x) (fst∗ 𝓤 (never 𝓤) (sem 𝓛 (ghosts.dealloc_token a (bare (lone contents_row.mir)) null_ptr))) (λ b o is.
-      use1 𝓛 (given (Testable (block_ptr b o)) (‵ (box_owns (ghosts.dealloc_token a) contents_row (block_ptr b o) x))) (tested 𝓛 a (block_ptr b o) x) $ learn t (λ may. at_some b o x is refl may))
+      use1 𝓛 (given (Testable (block_ptr b o)) (‵ (box_owns (ghosts.dealloc_token a) contents_row (block_ptr b o) x))) (tested 𝓛 a (block_ptr b o) x) $ learn t (λ may. at_some b o x is refl refl may))

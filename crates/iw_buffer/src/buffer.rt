@@ -1,6 +1,6 @@
-ghost use Rattle.std.specs.Prelude.{◌≡◌, Option, None, Some, List, ℕ};
+ghost use Rattle.std.specs.Prelude.{◌≡◌, ◌≤◌, Option, None, Some, List, ℕ, IfSome, vec_capacity};
 ghost use Rattle.std.specs.Option.{option_map};
-ghost use Rattle.iw_buffer.specs.Ownership.{buffer_owns, state_coded};
+ghost use Rattle.iw_buffer.specs.Ownership.{buffer_owns, state_coded, room_coded};
 
 use crate::contents::Contents;
 use crate::lent::Lent;
@@ -18,10 +18,12 @@ pub struct Buffer {
     at: *mut u8,
     alloc: Global,
     pub ghost state: { Option (List ℕ) } by { state_coded },
+    // How many octets there may be before a call that puts some behind asks for memory.
+    pub ghost room: { ℕ } by { room_coded },
 }
 
 impl Model for Buffer {
-    ghost also_owns = { λ b. buffer_owns b.alloc b.at b.state };
+    ghost also_owns = { λ b. buffer_owns b.alloc b.at b.state b.room };
 }
 
 impl Buffer {
@@ -37,7 +39,8 @@ impl Buffer {
 
     /// Takes out what there is, for a call that puts it back: then there is no buffer.
     pub fn take(&mut self, alloc: Global) -> Option<Box<Contents>>
-        ensures contents { option_map (λ b. b.value) result ≡ self.old.state }
+        ensures contents { option_map (λ b. b.value.octets) result ≡ self.old.state }
+        ensures room { IfSome result (λ b. b.value.room ≡ self.old.room) }
         ensures none { self.new.state ≡ None }
     {
         let buffer = std::mem::replace(self, Buffer::none(alloc));
@@ -46,7 +49,8 @@ impl Buffer {
 
     /// Puts this in. What was there goes.
     pub fn put(&mut self, contents: Box<Contents>)
-        ensures { self.new.state ≡ Some contents.value }
+        ensures octets { self.new.state ≡ Some contents.value.octets }
+        ensures room { self.new.room ≡ contents.value.room }
     {
         *self = Buffer::of_parts(Parts::of(contents));
     }
@@ -55,6 +59,7 @@ impl Buffer {
     /// no buffer.
     pub fn take_vec(&mut self, alloc: Global) -> Option<Lent>
         ensures octets { option_map (λ lent. lent.octets.items) result ≡ self.old.state }
+        ensures room { IfSome result (λ lent. self.old.room ≤ vec_capacity lent.octets) }
         ensures none { self.new.state ≡ None }
     {
         match self.take(alloc) {
@@ -68,7 +73,8 @@ impl Buffer {
 
     /// Puts back what was taken out so. What was there goes.
     pub fn put_vec(&mut self, lent: Lent)
-        ensures { self.new.state ≡ Some lent.octets.items }
+        ensures octets { self.new.state ≡ Some lent.octets.items }
+        ensures room { self.new.room ≡ vec_capacity lent.octets }
     {
         let Lent { octets, mut block } = lent;
         block.set(octets);
@@ -76,7 +82,8 @@ impl Buffer {
     }
 
     fn into_contents(self) -> Option<Box<Contents>>
-        ensures { option_map (λ b. b.value) result ≡ self.state }
+        ensures octets { option_map (λ b. b.value.octets) result ≡ self.state }
+        ensures room { IfSome result (λ b. b.value.room ≡ self.room) }
     {
         match self.into_parts() {
             None => None,
@@ -85,7 +92,7 @@ impl Buffer {
     }
 
     fn of_parts(parts: Parts<Contents, Global>) -> Buffer
-        ensures { result.state ≡ Some parts.value }
+        ensures { (result.state ≡ Some parts.value.octets) × (result.room ≡ parts.value.room) }
     {
         let Parts { ptr, alloc } = parts;
         Buffer {
@@ -95,7 +102,7 @@ impl Buffer {
     }
 
     fn into_parts(self) -> Option<Parts<Contents, Global>>
-        ensures { option_map (λ p. p.value) result ≡ self.state }
+        ensures { (option_map (λ p. p.value.octets) result ≡ self.state) × IfSome result (λ p. p.value.room ≡ self.room) }
     {
         let Buffer { at, alloc } = self;
         if at.is_null() {

@@ -1,5 +1,5 @@
 // Calls on a buffer.
-ghost use Rattle.std.specs.Prelude.{◌≡◌, None, Some, length, take, drop, IfSome, IfErr, IfOk, OnOk, OnErr};
+ghost use Rattle.std.specs.Prelude.{◌≡◌, ◌≤◌, None, Some, length, take, drop, IfSome, IfErr, IfOk, OnOk, OnErr};
 ghost use Rattle.std.specs.Option.{option_map};
 ghost use Rattle.std.specs.Result.{result_err};
 ghost use Rattle.iw_buffer.specs.Octets.{buffer_refusal, zeroes};
@@ -10,7 +10,8 @@ use crate::refusal::BufferRefusal;
 use std::alloc::{AllocError, Global};
 
 fn zeroes(alloc: Global, n: usize) -> Result<Box<Contents>, AllocError>
-    ensures { IfOk result (λ contents. contents.value ≡ zeroes n) }
+    ensures octets { IfOk result (λ contents. contents.value.octets ≡ zeroes n) }
+    ensures room { IfOk result (λ contents. n ≤ contents.value.room) }
 {
     let octets = vec![in alloc; 0u8; n]?;
     let contents = Box::new(alloc, Contents::of(octets))?;
@@ -24,6 +25,7 @@ impl Buffer {
         ensures refused { IfSome self.old.state (λ _. result ≡ Err BufferRefusal.AlreadyMade) }
         ensures memory { self.old.state ≡ None → IfErr result (λ e. e ≡ BufferRefusal.NoMemory) }
         ensures ok { OnOk result (self.new.state ≡ Some (zeroes n)) }
+        ensures room { OnOk result (n ≤ self.new.room) }
         ensures err { OnErr result (self.new.state ≡ self.old.state) }
     {
         if let Some(contents) = self.take(alloc) {
@@ -58,6 +60,7 @@ impl Buffer {
         ensures len { OnOk result (Some len.new ≡ option_map (λ octets. length octets) self.old.state) }
         ensures kept { OnErr result ((at.new ≡ at.old) × (len.new ≡ len.old)) }
         ensures same { self.new.state ≡ self.old.state }
+        ensures room { OnOk result (self.new.room ≡ self.old.room) }
     {
         let Some(mut contents) = self.take(alloc) else {
             return Err(BufferRefusal::NoBuffer);
@@ -73,6 +76,7 @@ impl Buffer {
     pub fn truncate(&mut self, alloc: Global, n: usize) -> Result<(), BufferRefusal>
         ensures refused { result_err result ≡ buffer_refusal self.old.state }
         ensures after { self.new.state ≡ option_map (λ octets. take n octets) self.old.state }
+        ensures room { OnOk result (self.old.room ≤ self.new.room) }
     {
         let Some(mut contents) = self.take(alloc) else {
             return Err(BufferRefusal::NoBuffer);
@@ -87,6 +91,7 @@ impl Buffer {
     pub fn drop_front(&mut self, alloc: Global, n: usize) -> Result<(), BufferRefusal>
         ensures refused { result_err result ≡ buffer_refusal self.old.state }
         ensures after { self.new.state ≡ option_map (λ octets. drop n octets) self.old.state }
+        ensures room { OnOk result (self.old.room ≤ self.new.room) }
     {
         let Some(mut contents) = self.take(alloc) else {
             return Err(BufferRefusal::NoBuffer);

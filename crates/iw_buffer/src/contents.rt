@@ -5,7 +5,8 @@ use std::alloc::{AllocError, AllocFailed, Global};
 use std::marker::Model;
 use std::ptr::{NonNull, null_mut};
 
-/// What a buffer has: its octets.
+/// What a buffer has: its octets. Contracts also see for how many there is room before memory is asked for; for octets that
+/// came by [`Contents::take_back`] none is promised.
 #[derive(Drop)]
 pub struct Contents {
     form: Form,
@@ -20,12 +21,12 @@ enum Form {
 }
 
 impl Model for Contents {
-    ghost use Rattle.std.specs.Prelude.{ℕ, List};
-    ghost use Rattle.iw_buffer.specs.Contents.{octets_in, HasRoom};
+    ghost use Rattle.iw_buffer.specs.Octets.{Stored};
+    ghost use Rattle.iw_buffer.specs.Contents.{stored_in, HasRoom};
 
-    ghost Value = { List ℕ };
+    ghost Value = { Stored };
 
-    ghost view = { λ contents. octets_in contents.form };
+    ghost view = { λ contents. stored_in contents.form };
 
     ghost invariant = { λ contents. HasRoom contents.form };
 }
@@ -33,14 +34,15 @@ impl Model for Contents {
 impl Contents {
     /// No octets.
     pub fn nothing(alloc: Global) -> Contents
-        ensures { result ≡ [] }
+        ensures { result.octets ≡ [] }
     {
         Contents::of(Vec::new(alloc))
     }
 
     /// The octets of a vector.
     pub fn of(octets: Vec<u8>) -> Contents
-        ensures { result ≡ octets.items }
+        ensures octets { result.octets ≡ octets.items }
+        ensures room { result.room ≡ vec_capacity octets }
     {
         Contents {
             form: Form::Vector(octets),
@@ -49,7 +51,7 @@ impl Contents {
 
     /// How many octets there are.
     pub fn len(&self) -> usize
-        ensures { result ≡ length self.now }
+        ensures { result ≡ length self.now.octets }
     {
         match &self.form {
             Form::Vector(octets) => octets.len(),
@@ -59,7 +61,7 @@ impl Contents {
 
     /// Whether there are none.
     pub fn is_empty(&self) -> bool
-        ensures { result ≡ (length self.now == 0) }
+        ensures { result ≡ (length self.now.octets == 0) }
     {
         self.len() == 0
     }
@@ -76,7 +78,8 @@ impl Contents {
 
     /// Keeps the first `n` octets, or all if there are no more. Memory for the others stays.
     pub fn truncate(&mut self, alloc: Global, n: usize)
-        ensures { self.new ≡ take n self.old }
+        ensures octets { self.new.octets ≡ take n self.old.octets }
+        ensures room { self.old.room ≤ self.new.room }
     {
         match &mut self.form {
             Form::Vector(octets) => octets.truncate(n),
@@ -91,7 +94,8 @@ impl Contents {
 
     /// Drops the first `n` octets, or all if there are no more: the others move to the front, at the same address. Memory stays.
     pub fn drop_front(&mut self, alloc: Global, n: usize)
-        ensures { self.new ≡ drop n self.old }
+        ensures octets { self.new.octets ≡ drop n self.old.octets }
+        ensures room { self.old.room ≤ self.new.room }
     {
         let len = self.len();
         if n >= len {
@@ -113,7 +117,8 @@ impl Contents {
     /// The octets as a vector. Those that came by [`Contents::take_back`] are written once more for that, where they stand,
     /// or are copied into memory that was taken then: so this cannot fail.
     pub fn into_vec(self) -> Vec<u8>
-        ensures { result.items ≡ self }
+        ensures octets { result.items ≡ self.octets }
+        ensures room { self.room ≤ vec_capacity result }
     {
         match self.form {
             Form::Vector(octets) => octets,
@@ -126,8 +131,9 @@ impl Contents {
 
     /// Takes the octets out, as [`Contents::into_vec`] gives them. Then there are none.
     pub fn take_vec(&mut self, alloc: Global) -> Vec<u8>
-        ensures octets { result.items ≡ self.old }
-        ensures after { self.new ≡ [] }
+        ensures octets { result.items ≡ self.old.octets }
+        ensures room { self.old.room ≤ vec_capacity result }
+        ensures after { self.new.octets ≡ [] }
     {
         match &mut self.form {
             Form::Vector(octets) => std::mem::replace(octets, Vec::new(alloc)),
@@ -137,7 +143,8 @@ impl Contents {
 
     /// Has the octets of a vector in place of those that were here.
     pub fn set(&mut self, octets: Vec<u8>)
-        ensures { self.new ≡ octets.items }
+        ensures octets { self.new.octets ≡ octets.items }
+        ensures room { self.new.room ≡ vec_capacity octets }
     {
         *self = Contents::of(octets);
     }
@@ -146,9 +153,9 @@ impl Contents {
     /// octets did not come by [`Contents::take_back`], room for them to come back with. Then there are none here. An `Err`
     /// means out of memory, and changes nothing.
     pub fn share(&mut self, alloc: Global) -> Result<Bytes, AllocError>
-        ensures octets { IfOk result (λ shared. shared ≡ self.old) }
-        ensures ok { OnOk result (self.new ≡ []) }
-        ensures err { OnErr result (self.new ≡ self.old) }
+        ensures octets { IfOk result (λ shared. shared ≡ self.old.octets) }
+        ensures ok { OnOk result (self.new.octets ≡ []) }
+        ensures err { OnErr result (self.new.octets ≡ self.old.octets) }
     {
         match std::mem::replace(self, Contents::nothing(alloc)).form {
             Form::Vector(octets) => self.share_vector(alloc, octets),
@@ -159,8 +166,8 @@ impl Contents {
     // Shares a vector, and the contents are room for as many octets. If there is no memory for that, they are the vector.
     fn share_vector(&mut self, alloc: Global, octets: Vec<u8>) -> Result<Bytes, AllocError>
         ensures octets { IfOk result (λ shared. shared ≡ octets.items) }
-        ensures ok { OnOk result (self.new ≡ []) }
-        ensures err { OnErr result (self.new ≡ octets.items) }
+        ensures ok { OnOk result (self.new.octets ≡ []) }
+        ensures err { OnErr result (self.new.octets ≡ octets.items) }
     {
         let Ok(room) = Vec::with_capacity(alloc, octets.len()) else {
             self.set(octets);
@@ -183,8 +190,8 @@ impl Contents {
         requires empty { room.items ≡ [] }
         requires room { vec_len room + length octets.items ≤ vec_capacity room }
         ensures octets { IfOk result (λ shared. shared ≡ octets.items) }
-        ensures ok { OnOk result (self.new ≡ []) }
-        ensures err { OnErr result (self.new ≡ octets.items) }
+        ensures ok { OnOk result (self.new.octets ≡ []) }
+        ensures err { OnErr result (self.new.octets ≡ octets.items) }
     {
         match octets.freeze() {
             Ok(shared) => {
@@ -202,8 +209,8 @@ impl Contents {
     /// still shares them. [`Contents::into_vec`] may want room for as many: it is that which [`Contents::share`] left, or is
     /// allocated. An `Err`, which gives the octets back, means out of memory, and changes nothing.
     pub fn take_back(&mut self, alloc: Global, shared: Bytes) -> Result<(), Bytes>
-        ensures ok { OnOk result (self.new ≡ shared) }
-        ensures err { OnErr result (self.new ≡ self.old) }
+        ensures ok { OnOk result (self.new.octets ≡ shared) }
+        ensures err { OnErr result (self.new.octets ≡ self.old.octets) }
         ensures back { IfErr result (λ back. back ≡ shared) }
     {
         let mut room = self.take_room(alloc);
@@ -231,7 +238,7 @@ impl Contents {
     fn returned(octets: BytesMut, room: Vec<u8>) -> Contents
         requires empty { room.items ≡ [] }
         requires room { vec_len room + length octets.items ≤ vec_capacity room }
-        ensures { result ≡ octets.items }
+        ensures { result.octets ≡ octets.items }
     {
         Contents {
             form: Form::Returned(octets, room),
@@ -241,7 +248,7 @@ impl Contents {
     // Takes out a vector with no octets, for its memory, or makes one.
     fn take_room(&mut self, alloc: Global) -> Vec<u8>
         ensures empty { result.items ≡ [] }
-        ensures same { self.new ≡ self.old }
+        ensures same { self.new.octets ≡ self.old.octets }
     {
         if let Form::Vector(octets) = &mut self.form {
             if octets.is_empty() {
@@ -254,7 +261,7 @@ impl Contents {
     // Puts it back where it was.
     fn put_room(&mut self, room: Vec<u8>)
         requires { room.items ≡ [] }
-        ensures { self.new ≡ self.old }
+        ensures { self.new.octets ≡ self.old.octets }
     {
         if let Form::Vector(octets) = &mut self.form {
             if octets.is_empty() {

@@ -1,5 +1,5 @@
 // Buffers that C keeps, and octets that change hands with no copy.
-ghost use Rattle.std.specs.Prelude.{◌≡◌, ◌≢◌, ◌⊎◌, ◌++◌, pos, None, Some, [], length, take, drop, IfSome, IfNone};
+ghost use Rattle.std.specs.Prelude.{◌≡◌, ◌≢◌, ◌⊎◌, ◌++◌, ◌≤◌, pos, None, Some, [], length, take, drop, IfSome, IfNone};
 ghost use Rattle.std.specs.Option.{option_map};
 ghost use Rattle.std.specs.Result.{result_err};
 ghost use Rattle.iw_buffer.specs.Octets.{buffer_refusal, zeroes};
@@ -8,7 +8,7 @@ ghost use Rattle.iw_memory.specs.Table.{next_stag};
 ghost use Rattle.iw_endpoint.specs.Endpoint.{registered, deregistered, octets_of};
 ghost use Rattle.iw_endpoint.specs.Endpoint.{emission_at, emitted_at, after_emit};
 ghost use Rattle.iw_handle.specs.Events.{emitted_of, IsFrame};
-ghost use Rattle.iw_handle.specs.Filling.{FillsAt};
+ghost use Rattle.iw_handle.specs.Filling.{FillsAt, TakesMemoryForReadsAt};
 ghost use Rattle.iw_handle.specs.Refusals.{buffer_reason, code_of, refusal_code};
 ghost use Rattle.iw_handle.specs.Regions.{region_refusal, refusal_to_register};
 ghost use Rattle.iw_handle.specs.State.{called_on, refusal_with, changed, told_in, shown_in};
@@ -35,6 +35,7 @@ pub extern "C" fn iwarp_buffer_new(alloc: Global, n: usize, buffer: &mut Buffer)
     ensures made { IfSome buffer.old.state (λ _. result ≡ pos 32) }
     ensures why { buffer.old.state ≡ None → (result ≡ pos 0) ⊎ (result ≡ pos 3) }
     ensures ok { result ≡ pos 0 → buffer.new.state ≡ Some (zeroes n) }
+    ensures room { result ≡ pos 0 → n ≤ buffer.new.room }
     ensures err { result ≢ pos 0 → buffer.new.state ≡ buffer.old.state }
 {
     buffer_code(buffer.make(alloc, n))
@@ -60,6 +61,7 @@ pub extern "C" fn iwarp_buffer_at(
     ensures len { result ≡ pos 0 → Some n.new ≡ option_map (λ octets. length octets) buffer.old.state }
     ensures kept { result ≢ pos 0 → (at.new ≡ at.old) × (n.new ≡ n.old) }
     ensures same { buffer.new.state ≡ buffer.old.state }
+    ensures room { result ≡ pos 0 → buffer.new.room ≡ buffer.old.room }
 {
     buffer_code(buffer.address(alloc, at, n))
 }
@@ -69,6 +71,7 @@ pub extern "C" fn iwarp_buffer_at(
 pub extern "C" fn iwarp_buffer_truncate(alloc: Global, buffer: &mut Buffer, n: usize) -> i32
     ensures code { result ≡ pos (code_of (option_map buffer_reason (buffer_refusal buffer.old.state))) }
     ensures after { buffer.new.state ≡ option_map (λ octets. take n octets) buffer.old.state }
+    ensures room { result ≡ pos 0 → buffer.old.room ≤ buffer.new.room }
 {
     buffer_code(buffer.truncate(alloc, n))
 }
@@ -78,6 +81,7 @@ pub extern "C" fn iwarp_buffer_truncate(alloc: Global, buffer: &mut Buffer, n: u
 pub extern "C" fn iwarp_buffer_drop_front(alloc: Global, buffer: &mut Buffer, n: usize) -> i32
     ensures code { result ≡ pos (code_of (option_map buffer_reason (buffer_refusal buffer.old.state))) }
     ensures after { buffer.new.state ≡ option_map (λ octets. drop n octets) buffer.old.state }
+    ensures room { result ≡ pos 0 → buffer.old.room ≤ buffer.new.room }
 {
     buffer_code(buffer.drop_front(alloc, n))
 }
@@ -148,6 +152,8 @@ pub extern "C" fn iwarp_emit_onto(
         (λ e octets. refusal_to_go_on e number)) ((result ≡ pos 0) ⊎ (result ≡ pos 3)) }
     ensures want { result ≡ pos 3 → IfSome (called_on handle.old.state number)
         (λ held. IsFrame (emission_at held.endpoint number)) }
+    ensures room { result ≡ pos 3 →
+        TakesMemoryForReadsAt (called_on handle.old.state number) number buffer.old.state buffer.old.room }
     ensures emitted { result ≡ pos 0 → Some emitted.new ≡ told_in (called_on handle.old.state number)
         (λ e. emitted_of (emission_at e number)) }
     ensures untold { result ≢ pos 0 → emitted.new ≡ emitted.old }
@@ -180,6 +186,8 @@ pub extern "C" fn iwarp_fill(
         (λ e octets. refusal_to_go_on e number)) (λ r. result ≡ pos (refusal_code r)) }
     ensures memory { IfNone (refusal_with (called_on handle.old.state number) buffer.old.state
         (λ e octets. refusal_to_go_on e number)) ((result ≡ pos 0) ⊎ (result ≡ pos 3)) }
+    ensures room { result ≡ pos 3 →
+        TakesMemoryForReadsAt (called_on handle.old.state number) number buffer.old.state buffer.old.room }
     ensures ok { result ≡ pos 0 → IfSome (called_on handle.old.state number) (λ held. IfSome buffer.old.state
         (λ octets. FillsAt held number most octets handle.new.state buffer.new.state filling.new)) }
     ensures untold { result ≢ pos 0 → filling.new ≡ filling.old }

@@ -10,46 +10,58 @@ pub fn text_of(code: u32) -> &'static [u8]
 {
     match code {
         numbers::OK => b"done\0",
-        numbers::IS_CLOSED => b"the handle is closed\0",
-        numbers::ALREADY_OPEN => b"the handle is open already\0",
-        numbers::NO_MEMORY => b"out of memory\0",
-        numbers::NO_ROOM => b"the buffer is too short\0",
-        numbers::NO_SUCH_STREAM => b"no stream was opened under this number\0",
+        numbers::IS_CLOSED => b"the handle is closed: call iwarp_new first\0",
+        numbers::ALREADY_OPEN => b"the handle is open already: call iwarp_free first\0",
+        numbers::NO_MEMORY => b"out of memory: the call may be made again\0",
+        numbers::NO_ROOM =>
+            b"the caller's buffer is too short: the call tells the length that is needed\0",
+        numbers::NO_SUCH_STREAM => b"no stream was opened under this number, or it was closed\0",
         numbers::NO_REGION => b"the STag names no region\0",
-        numbers::OUTSIDE => b"not all the octets lie in the region\0",
-        numbers::BAD_DOMAIN => b"no domain has this number\0",
+        numbers::OUTSIDE =>
+            b"not all the octets lie in the region: iwarp_facts tells where it lies\0",
+        numbers::BAD_DOMAIN => b"a domain's number is 1 to 255\0",
         numbers::DOMAIN_TAKEN => b"the domain was added before\0",
-        numbers::NO_DOMAIN => b"the domain was not added\0",
-        numbers::DOMAIN_FULL => b"the domain has 1,024 regions\0",
-        numbers::REGION_TOO_LONG => b"a region has at most 16,777,216 octets\0",
-        numbers::BASE_WRAP => b"the tagged offsets wrap\0",
-        numbers::NUMBER_TAKEN => b"a stream was opened under this number before\0",
-        numbers::BAD_NUMBER => b"no stream has a number above 63\0",
-        numbers::BAD_ROLE => b"no role has this number\0",
-        numbers::PRIVATE_TOO_LONG => b"too many octets of private data\0",
-        numbers::NOT_ASKED => b"no MPA Request is pending\0",
+        numbers::NO_DOMAIN => b"the domain was not added: call iwarp_add_domain first\0",
+        numbers::DOMAIN_FULL =>
+            b"the domain has 1,024 regions: deregister one, or use another domain\0",
+        numbers::REGION_TOO_LONG =>
+            b"a region has at most 16,777,216 octets: register them in parts\0",
+        numbers::BASE_WRAP => b"the region reaches past tagged offset 2^64: use a lower base\0",
+        numbers::NUMBER_TAKEN =>
+            b"a stream was opened under this number before: use iwarp_open_next\0",
+        numbers::BAD_NUMBER =>
+            b"a number that is picked is 0 to 63: iwarp_open_next gives others\0",
+        numbers::BAD_ROLE => b"a role is 0, 1 or 2\0",
+        numbers::PRIVATE_TOO_LONG =>
+            b"private data has at most 512 octets, and 508 in an enhanced start-up frame\0",
+        numbers::NOT_ASKED => b"no MPA Request waits for an answer\0",
         numbers::NOT_OPEN => b"the stream is not open yet, or has ended\0",
-        numbers::MESSAGES_FULL => b"256 messages are posted and not yet done\0",
-        numbers::MESSAGE_TOO_LONG => b"a message or Read has at most 16,777,216 octets\0",
-        numbers::BUFFERS_FULL => b"256 receive buffers are posted\0",
-        numbers::ENDED => b"the stream has ended\0",
-        numbers::BAD_SIZE => b"the maximum ULPDU is outside 128 to 64,512 octets\0",
+        numbers::MESSAGES_FULL =>
+            b"256 messages are posted and not yet done: emit, and work until one is\0",
+        numbers::MESSAGE_TOO_LONG =>
+            b"a message or Read has at most 16,777,216 octets: post it in parts\0",
+        numbers::BUFFERS_FULL => b"256 receive buffers are posted: work until one is handed back\0",
+        numbers::ENDED => b"the stream has ended: close it\0",
+        numbers::BAD_SIZE => b"the maximum ULPDU is 128 to 64,512 octets\0",
         numbers::TOO_FAR => b"the stream has taken in, or emitted, more than 2^62 octets\0",
-        numbers::LATE => b"octets were delivered on the stream before\0",
+        numbers::LATE =>
+            b"octets were delivered on the stream before: set the first number before that\0",
         numbers::ALREADY_SHARED => b"the domain has a pool already\0",
-        numbers::NOT_SHARED => b"the domain has no pool\0",
+        numbers::NOT_SHARED => b"the domain has no pool: call iwarp_share first\0",
         numbers::POOL_FULL => b"the pool has 1,024 buffers\0",
-        numbers::SHARED => b"the stream takes its receive buffers from its domain's pool\0",
+        numbers::SHARED =>
+            b"the stream takes its receive buffers from its domain's pool: post them there\0",
         numbers::BUFFER_MISSING => b"the buffer was not made, or was freed\0",
-        numbers::BUFFER_EXISTS => b"the buffer was made before, and not freed\0",
+        numbers::BUFFER_EXISTS =>
+            b"the buffer was made before, and not freed: call iwarp_buffer_free first\0",
         numbers::BUFFER_TOO_LONG => b"a receive buffer has at most 16,777,216 octets\0",
         numbers::BAD_BITS => b"a bit is set that has no meaning\0",
         numbers::NO_READS => b"the peer takes no Reads\0",
         numbers::NOT_AT_REST =>
             b"the stream is open, or has something left to hand back or to emit\0",
-        numbers::NUMBERS_SPENT => b"all numbers of streams were given\0",
-        numbers::WINDOW_FULL => b"the window has no room for more octets\0",
-        numbers::NOT_LENT => b"no place was lent for so many octets\0",
+        numbers::NUMBERS_SPENT => b"all numbers of streams were given: use another handle\0",
+        numbers::WINDOW_FULL => b"the window has no room: work until IWARP_IDLE makes some\0",
+        numbers::NOT_LENT => b"no place is lent for so many octets: call iwarp_room right before\0",
         _ => b"no code has this number\0",
     }
 }

@@ -1,10 +1,12 @@
 -- What a call that fills a buffer with frames does.
-use Rattle.std.specs.Prelude.{◌≡◌, ℕ, ◌-◌, List, length, Option, None, Some}
+use Rattle.std.specs.Prelude.{◌≡◌, ℕ, ◌+◌, ◌-◌, ◌≤◌, List, length, Option, Some, IfSome}
+use Rattle.iw_buffer.specs.Octets as buffers
 use Rattle.iw_connection.specs.declared.filling.Filled.{Filled}
 use Rattle.iw_connection.specs.declared.working.Refusal as connection
 use Rattle.iw_connection.specs.declared.working.Refusal.TheVariants as stops
 use Rattle.iw_connection.specs.Filling.{FillsTo}
-use Rattle.iw_endpoint.specs.Endpoint.{EndpointState}
+use Rattle.iw_stream.specs.Stream.{BeginsReads, due}
+use Rattle.iw_endpoint.specs.Endpoint.{EndpointState, stream_at, emitted_at}
 use Rattle.iw_handle.specs.declared.event.Filling.{Filling}
 use Rattle.iw_handle.specs.declared.held.Held.{Held}
 use Rattle.iw_handle.specs.declared.refusal.Refusal.{Refusal}
@@ -32,3 +34,12 @@ pub record FillsAt (held : Held) (number most : ℕ) (before : List ℕ) (handle
   pub fills : FillsBy held.endpoint number most before after new filling
   pub handle_is : handle ≡ Some (with_endpoint held new)
   pub buffer_is : buffer ≡ Some after
+
+-- where a buffer of so many octets has room for what is due behind them, memory is asked for only to begin a first Read
+abbrev pub TakesMemoryForReads : EndpointState → ℕ → ℕ → ℕ → Type 0
+TakesMemoryForReads e number len room = len + length (emitted_at e number) ≤ room → BeginsReads (stream_at e number) (due (stream_at e number))
+
+-- the same of a handle and a buffer
+abbrev pub TakesMemoryForReadsAt : State → ℕ → buffers.State → ℕ → Type 0
+TakesMemoryForReadsAt state number buffer room =
+    IfSome state (λ held. IfSome buffer (λ octets. TakesMemoryForReads held.endpoint number (length octets) room))

@@ -1,5 +1,5 @@
 -- Octets that the program reads to a place that is lent.
-use Rattle.std.specs.Prelude.{◌≡◌, ℕ, false, Option}
+use Rattle.std.specs.Prelude.{◌≡◌, ℕ, false}
 use Rattle.std.specs.Option.{option_map}
 use Rattle.iw_lines.specs.Lends.{lent_to, with_lent, without_lent}
 use Rattle.iw_endpoint.specs.Endpoint.{EndpointState, stream_at}

@@ -1,10 +1,11 @@
 // Octets that change hands with no copy: a buffer's octets are a region's, or a frame is put behind them.
-ghost use Rattle.std.specs.Prelude.{◌≡◌, ◌++◌, None, Some, [], length, IfSome, IfNone, IfOk, IfErr, OnOk, OnErr};
+ghost use Rattle.std.specs.Prelude.{◌≡◌, ◌++◌, None, Some, [], length, vec_len, vec_capacity, IfSome, IfNone, IfOk, IfErr, OnOk, OnErr};
 ghost use Rattle.std.specs.Result.{result_err};
 ghost use Rattle.iw_memory.specs.Table.{next_stag};
 ghost use Rattle.iw_endpoint.specs.Endpoint.{registered, deregistered, octets_of};
 ghost use Rattle.iw_endpoint.specs.Endpoint.{emission_at, emitted_at, after_emit};
 ghost use Rattle.iw_handle.specs.Events.{emitted_of, IsFrame};
+ghost use Rattle.iw_handle.specs.Filling.{TakesMemoryForReads, TakesMemoryForReadsAt};
 ghost use Rattle.iw_handle.specs.Regions.{region_refusal, refusal_to_register};
 ghost use Rattle.iw_handle.specs.State.{called_on, refusal_with, changed, told_in, shown_in};
 ghost use Rattle.iw_handle.specs.Streams.{refusal_to_go_on};
@@ -76,6 +77,7 @@ fn emit_onto(endpoint: &mut Endpoint, number: u32, out: &mut Vec<u8>) -> Result<
     ensures refused { IfSome (refusal_to_go_on endpoint.old number) (λ r. result ≡ Err r) }
     ensures memory { IfNone (refusal_to_go_on endpoint.old number) (IfErr result (λ e. e ≡ Refusal.NoMemory)) }
     ensures want { result ≡ Err Refusal.NoMemory → IsFrame (emission_at endpoint.old number) }
+    ensures room { result ≡ Err Refusal.NoMemory → TakesMemoryForReads endpoint.old number (vec_len out.old) (vec_capacity out.old) }
     ensures emitted { IfOk result (λ emitted. emitted ≡ emitted_of (emission_at endpoint.old number)) }
     ensures octets { OnOk result (out.new.items ≡ out.old.items ++ emitted_at endpoint.old number) }
     ensures ok { OnOk result (endpoint.new ≡ after_emit endpoint.old number) }
@@ -167,7 +169,7 @@ impl Handle {
 
     /// Appends what a stream emits next to a buffer ([`Endpoint::emit`]), and reports it in numbers. An `Err` changes
     /// nothing. `TooFar` means that more than 2^62 octets were emitted; `NoMemory` comes only if no other refusal applies and
-    /// octets are due.
+    /// octets are due for which the buffer has no room, or a Read is begun while none is outstanding.
     pub fn emit_onto(
         &mut self,
         alloc: Global,
@@ -180,6 +182,8 @@ impl Handle {
             (IfErr result (λ e. e ≡ Refusal.NoMemory)) }
         ensures want { result ≡ Err Refusal.NoMemory → IfSome (called_on self.old.state number)
             (λ held. IsFrame (emission_at held.endpoint number)) }
+        ensures room { result ≡ Err Refusal.NoMemory →
+            TakesMemoryForReadsAt (called_on self.old.state number) number buffer.old.state buffer.old.room }
         ensures emitted { IfOk result
             (λ emitted. Some emitted ≡ told_in (called_on self.old.state number) (λ e. emitted_of (emission_at e number))) }
         ensures octets { OnOk result (IfSome buffer.old.state (λ octets.

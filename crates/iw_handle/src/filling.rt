@@ -1,6 +1,6 @@
 // Frames that are put behind a buffer's octets, until nothing more is due.
-ghost use Rattle.std.specs.Prelude.{◌≡◌, IfSome, IfNone, IfOk, IfErr, OnOk, OnErr};
-ghost use Rattle.iw_handle.specs.Filling.{stop_reason, FillsBy, FillsAt};
+ghost use Rattle.std.specs.Prelude.{◌≡◌, vec_len, vec_capacity, IfSome, IfNone, IfOk, IfErr, OnOk, OnErr};
+ghost use Rattle.iw_handle.specs.Filling.{stop_reason, FillsBy, FillsAt, TakesMemoryForReads, TakesMemoryForReadsAt};
 ghost use Rattle.iw_handle.specs.State.{called_on, refusal_with};
 ghost use Rattle.iw_handle.specs.Streams.{refusal_to_go_on};
 
@@ -32,6 +32,7 @@ fn fill(
     // The first refusal that applies; if none does, only `NoMemory`.
     ensures refused { IfSome (refusal_to_go_on endpoint.old number) (λ r. result ≡ Err r) }
     ensures memory { IfNone (refusal_to_go_on endpoint.old number) (IfErr result (λ e. e ≡ Refusal.NoMemory)) }
+    ensures room { result ≡ Err Refusal.NoMemory → TakesMemoryForReads endpoint.old number (vec_len out.old) (vec_capacity out.old) }
     ensures ok { IfOk result (λ filling. FillsBy endpoint.old number most out.old.items out.new.items endpoint.new filling) }
     ensures err { OnErr result (endpoint.new ≡ endpoint.old) }
     ensures back { OnErr result (out.new.items ≡ out.old.items) }
@@ -47,7 +48,8 @@ impl Handle {
     /// Appends what a stream is to send to a buffer, frame by frame, and reports it in numbers: until nothing is due, or one
     /// frame more would make what this call appends more than `most` octets ([`iw_connection::fill`]). A first frame is
     /// appended whatever its length. An `Err` changes nothing. `TooFar` means that more than 2^62 octets were emitted;
-    /// `NoMemory` comes only if no other refusal applies.
+    /// `NoMemory` comes only if no other refusal applies, and the buffer has no room for the first frame, or that begins a Read
+    /// while none is outstanding.
     pub fn fill(
         &mut self,
         alloc: Global,
@@ -59,6 +61,8 @@ impl Handle {
             (λ r. result ≡ Err r) }
         ensures memory { IfNone (refusal_with (called_on self.old.state number) buffer.old.state (λ e octets. refusal_to_go_on e number))
             (IfErr result (λ e. e ≡ Refusal.NoMemory)) }
+        ensures room { result ≡ Err Refusal.NoMemory →
+            TakesMemoryForReadsAt (called_on self.old.state number) number buffer.old.state buffer.old.room }
         ensures ok { IfOk result (λ filling. IfSome (called_on self.old.state number) (λ held. IfSome buffer.old.state
             (λ octets. FillsAt held number most octets self.new.state buffer.new.state filling))) }
         ensures err { OnErr result (self.new.state ≡ called_on self.old.state number) }

@@ -18,103 +18,103 @@ use thiserror::Error;
 #[derive(Clone, Copy, Debug, PartialEq, Eq, Error)]
 pub enum Refusal {
     /// The handle has no endpoint.
-    #[error("the handle has no endpoint")]
+    #[error("the handle has no endpoint: open it first")]
     Closed,
     /// The handle already has an endpoint.
-    #[error("the handle has an endpoint already")]
+    #[error("the handle has an endpoint already: free it first")]
     AlreadyOpen,
     /// Out of memory.
-    #[error("no memory")]
+    #[error("no memory: the call may be made again")]
     NoMemory,
     /// The caller's buffer is too short.
-    #[error("the buffer is too short")]
+    #[error("the caller's buffer is too short: the call tells the length that is needed")]
     NoRoom,
     /// No stream was opened under this number.
-    #[error("no stream was opened under this number")]
+    #[error("no stream was opened under this number, or it was closed")]
     NoSuchStream,
     /// The STag names no region.
     #[error("the STag names no region")]
     NoRegion,
     /// Not all the octets lie in the region.
-    #[error("the octets are not all in the region")]
+    #[error("not all the octets lie in the region: `facts` tells where it lies")]
     Outside,
     /// 0 is not a domain's number.
-    #[error("0 is no domain")]
+    #[error("a domain's number is 1 to 255")]
     BadDomain,
     /// The domain was added before.
     #[error("the domain was added before")]
     DomainTaken,
     /// The domain was not added.
-    #[error("the domain was not added")]
+    #[error("the domain was not added: add it first")]
     NoDomain,
     /// The domain has 1,024 regions.
-    #[error("the domain is full")]
+    #[error("the domain has 1,024 regions: deregister one, or use another domain")]
     DomainFull,
     /// More than 16,777,216 octets, the most that a region may have.
-    #[error("too many octets for a region")]
+    #[error("a region has at most 16,777,216 octets: register them in parts")]
     RegionTooLong,
     /// The base plus the number of octets is more than 2^64.
-    #[error("the tagged offsets wrap")]
+    #[error("the region reaches past tagged offset 2^64: use a lower base")]
     BaseWrap,
     /// A stream was opened under this number before.
-    #[error("a stream with this number was opened before")]
+    #[error("a stream was opened under this number before: use `open_next`")]
     NumberTaken,
     /// The stream's number is greater than 63.
-    #[error("no stream has this number")]
+    #[error("a number that is picked is 0 to 63: `open_next` gives others")]
     BadNumber,
     /// The role is not 0, 1 or 2.
-    #[error("no role has this number")]
+    #[error("a role is 0, 1 or 2")]
     BadRole,
     /// Private data has at most 512 octets, and 508 in an enhanced start-up frame.
-    #[error("too many octets of private data")]
+    #[error("private data has at most 512 octets, and 508 in an enhanced start-up frame")]
     PrivateTooLong,
     /// No MPA Request is pending.
-    #[error("no Request waits for an answer")]
+    #[error("no MPA Request waits for an answer")]
     NotAsked,
     /// The stream is not open yet, or has ended.
-    #[error("the stream is not open")]
+    #[error("the stream is not open yet, or has ended")]
     NotOpen,
     /// 256 messages are posted and not yet handed back.
-    #[error("256 messages are posted and not yet handed out")]
+    #[error("256 messages are posted and not yet done: emit, and work until one is")]
     MessagesFull,
     /// More than 16,777,216 octets in a message or Read.
-    #[error("the message or Read has more than 16,777,216 octets")]
+    #[error("a message or Read has at most 16,777,216 octets: post it in parts")]
     MessageTooLong,
     /// 256 receive buffers are posted and not yet handed back.
-    #[error("256 receive buffers are posted and not yet handed back")]
+    #[error("256 receive buffers are posted: work until one is handed back")]
     BuffersFull,
     /// The stream has ended.
-    #[error("the stream has ended")]
+    #[error("the stream has ended: close it")]
     Ended,
     /// The maximum ULPDU is outside 128 to 64,512 octets.
-    #[error("the ULPDU size is outside 128 to 64,512 octets")]
+    #[error("the maximum ULPDU is 128 to 64,512 octets")]
     BadSize,
     /// The stream has emitted more than 2^62 octets, or its in-order point is past 2^62.
-    #[error("the stream has gone too far")]
+    #[error("the stream has taken in, or emitted, more than 2^62 octets")]
     TooFar,
     /// Octets were delivered on the stream before.
-    #[error("octets were delivered before")]
+    #[error("octets were delivered on the stream before: set the first number before that")]
     Late,
     /// The domain already has a pool of receive buffers.
     #[error("the domain has a pool already")]
     AlreadyShared,
     /// The domain has no pool of receive buffers.
-    #[error("the domain has no pool")]
+    #[error("the domain has no pool: share it first")]
     NotShared,
     /// The domain's pool has 1,024 buffers.
     #[error("the pool has 1,024 buffers")]
     PoolFull,
     /// The stream takes its receive buffers from its domain's pool.
-    #[error("the stream shares its domain's pool")]
+    #[error("the stream takes its receive buffers from its domain's pool: post them there")]
     Shared,
     /// The buffer was never made, or was freed.
-    #[error("there is no buffer")]
+    #[error("the buffer was not made, or was freed")]
     NoBuffer,
     /// The buffer was made before, and not freed.
-    #[error("the buffer was made before")]
+    #[error("the buffer was made before, and not freed: free it first")]
     AlreadyMade,
     /// A receive buffer has at most 16,777,216 octets.
-    #[error("too many octets for a receive buffer")]
+    #[error("a receive buffer has at most 16,777,216 octets")]
     BufferTooLong,
     /// A bit is set that has no meaning.
     #[error("a bit is set that has no meaning")]
@@ -123,16 +123,16 @@ pub enum Refusal {
     #[error("the peer takes no Reads")]
     NoReads,
     /// All numbers of streams up to 2^32 - 1 were given.
-    #[error("no number is left")]
+    #[error("all numbers of streams were given: use another handle")]
     NumbersSpent,
     /// The stream has not ended, or has something left to hand back or to emit.
-    #[error("the stream is not at rest")]
+    #[error("the stream is open, or has something left to hand back or to emit")]
     NotAtRest,
     /// The window has no room before `work` makes some.
-    #[error("the window has no room")]
+    #[error("the window has no room: work until idle makes some")]
     WindowFull,
     /// No place was lent for so many octets, or they are none.
-    #[error("no place was lent for so many octets")]
+    #[error("no place is lent for so many octets: ask for room right before")]
     NotLent,
 }
 

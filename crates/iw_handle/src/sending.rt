@@ -117,9 +117,9 @@ fn give_back(
     octets: &mut Contents,
     refusal: Refusal,
 ) -> Refusal
-    ensures { ((result ≡ refusal) × (lines.new ≡ lines.old) × (octets.new ≡ shared)) ⊎ ((result ≡ Refusal.NoMemory)
+    ensures { ((result ≡ refusal) × (lines.new ≡ lines.old) × (octets.new.octets ≡ shared)) ⊎ ((result ≡ Refusal.NoMemory)
         × (lines.new ≡ with_line lines.old number (with_sent (line_at lines.old number) shared))
-        × (octets.new ≡ octets.old)) }
+        × (octets.new.octets ≡ octets.old.octets)) }
 {
     match octets.take_back(alloc, shared) {
         Ok(()) => refusal,
@@ -140,16 +140,16 @@ fn send_these(
     stag: u32,
     token: u64,
 ) -> Result<(), Refusal>
-    ensures refused { IfSome (refusal_to_send held.old.endpoint number octets.old flags stag)
+    ensures refused { IfSome (refusal_to_send held.old.endpoint number octets.old.octets flags stag)
         (λ _. IsErr result) }
     ensures why { IfErr result (λ e. (e ≡ Refusal.NoMemory) ⊎
-        (refusal_to_send held.old.endpoint number octets.old flags stag ≡ Some e)) }
+        (refusal_to_send held.old.endpoint number octets.old.octets flags stag ≡ Some e)) }
     ensures bits { IfSome (bits_refusal 4 flags) (λ r. result ≡ Err r) }
     ensures ok { OnOk result
-        (held.new ≡ held_posted_from held.old number (sent octets.old flags stag) token octets.old) }
-    ensures taken { OnOk result (octets.new ≡ []) }
+        (held.new ≡ held_posted_from held.old number (sent octets.old.octets flags stag) token octets.old.octets) }
+    ensures taken { OnOk result (octets.new.octets ≡ []) }
     ensures err { IfErr result
-        (λ e. HasKept (e ≡ Refusal.NoMemory) held.old number octets.old held.new octets.new) }
+        (λ e. HasKept (e ≡ Refusal.NoMemory) held.old number octets.old.octets held.new octets.new.octets) }
 {
     check_bits(4, flags)?;
     let Ok(shared) = octets.share(alloc) else {
@@ -173,15 +173,15 @@ fn write_these(
     octets: &mut Contents,
     token: u64,
 ) -> Result<(), Refusal>
-    ensures refused { IfSome (refusal_to_post held.old.endpoint number (write_of stag to octets.old))
+    ensures refused { IfSome (refusal_to_post held.old.endpoint number (write_of stag to octets.old.octets))
         (λ _. IsErr result) }
     ensures why { IfErr result (λ e. (e ≡ Refusal.NoMemory) ⊎
-        (refusal_to_post held.old.endpoint number (write_of stag to octets.old) ≡ Some e)) }
+        (refusal_to_post held.old.endpoint number (write_of stag to octets.old.octets) ≡ Some e)) }
     ensures ok { OnOk result
-        (held.new ≡ held_posted_from held.old number (write_of stag to octets.old) token octets.old) }
-    ensures taken { OnOk result (octets.new ≡ []) }
+        (held.new ≡ held_posted_from held.old number (write_of stag to octets.old.octets) token octets.old.octets) }
+    ensures taken { OnOk result (octets.new.octets ≡ []) }
     ensures err { IfErr result
-        (λ e. HasKept (e ≡ Refusal.NoMemory) held.old number octets.old held.new octets.new) }
+        (λ e. HasKept (e ≡ Refusal.NoMemory) held.old number octets.old.octets held.new octets.new.octets) }
 {
     let Ok(shared) = octets.share(alloc) else {
         return Err(Refusal::NoMemory);
@@ -200,10 +200,10 @@ fn fetch_these(
     octets: &mut Contents,
 ) -> Result<(), Refusal>
     ensures memory { IfErr result (λ e. e ≡ Refusal.NoMemory) }
-    ensures octets { OnOk result (octets.new ≡ (line_at held.old.lines number).sent) }
+    ensures octets { OnOk result (octets.new.octets ≡ (line_at held.old.lines number).sent) }
     ensures ok { OnOk result (held.new ≡ held_with_sent held.old number []) }
     ensures err { OnErr result (held.new ≡ held.old) }
-    ensures back { OnErr result (octets.new ≡ octets.old) }
+    ensures back { OnErr result (octets.new.octets ≡ octets.old.octets) }
 {
     match held.lines.fetch_sent(alloc, number, octets) {
         Ok(()) => Ok(()),

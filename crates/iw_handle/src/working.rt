@@ -1,8 +1,8 @@
 // Delivery, work and what work hands back.
-ghost use Rattle.std.specs.Prelude.{◌≡◌, None, Some, length, IfSome, IfNone, IfOk, IfErr, OnOk, OnErr, IsSomeAnd};
+ghost use Rattle.std.specs.Prelude.{◌≡◌, ◌≤◌, ◌^◌, true, None, Some, length, IfSome, IfNone, IfOk, IfErr, OnOk, OnErr, IsSomeAnd};
 ghost use Rattle.std.specs.Option.{option_map};
 ghost use Rattle.std.specs.Result.{result_err};
-ghost use Rattle.iw_endpoint.specs.Endpoint.{with_first, delivery_at, after_deliver, step_at, after_work};
+ghost use Rattle.iw_endpoint.specs.Endpoint.{with_first, delivery_at, after_deliver, has_stream, point_at, step_at, after_work};
 ghost use Rattle.iw_lines.specs.Handed.{told_of};
 ghost use Rattle.iw_lines.specs.Line.{oldest_token};
 ghost use Rattle.iw_lines.specs.Lines.{line_at};
@@ -46,15 +46,17 @@ fn deliver(
     }
 }
 
-// Keeps what a step hands back, and drops the token of a message that is done or given up.
+// Tells a step, and keeps what it hands back. The token of a message that is done or given up is taken out.
 #[inline(always)]
-fn keep(step: Step<Octets>, number: u32, lines: &mut Lines)
-    ensures { lines.new ≡ lines_by step number lines.old }
+fn tell(step: Step<Octets>, number: u32, lines: &mut Lines, event: &mut Event)
+    ensures event { event.new ≡ event_of (oldest_token (line_at lines.old number)) step }
+    ensures lines { lines.new ≡ lines_by step number lines.old }
 {
+    *event = event_of(0, &step);
     match step {
         Step::Received { buffer, len, .. } => lines.keep(number, Handed { buffer, len }),
         Step::FlushedRecv(buffer) => lines.keep(number, Handed::whole(buffer)),
-        Step::Done(_) | Step::Flushed(_) => lines.pop(number),
+        Step::Done(_) | Step::Flushed(_) => event.token = lines.pop(number),
         Step::Asked
         | Step::Opened(_)
         | Step::Closed(_)
@@ -69,49 +71,59 @@ fn keep(step: Step<Octets>, number: u32, lines: &mut Lines)
     }
 }
 
-// The token of the message that a step tells of, which is looked up only for such a step; 0 for others.
-#[inline(always)]
-fn token_of(step: &Step<Octets>, number: u32, lines: &Lines) -> u64
-    ensures { event_of result step.now ≡ event_of (oldest_token (line_at lines.now number)) step.now }
+// By how much a step moves the in-order point at most: by the window.
+const MOST_MOVED: u64 = 1 << 18;
+
+// Where the in-order point is, if a step may be done.
+fn point(endpoint: &Endpoint, number: u32) -> Result<u64, Refusal>
+    ensures refused { result_err result ≡ refusal_to_work endpoint.now number }
+    ensures there { OnOk result (has_stream endpoint.now number ≡ true) }
+    ensures point { IfOk result (λ point. point_at endpoint.now number ≤ point) }
+    ensures near { IfOk result (λ point. point ≤ 2 ^ 62) }
 {
-    match step {
-        Step::Done(_) | Step::Flushed(_) => lines.oldest(number),
-        Step::Received { .. }
-        | Step::FlushedRecv(_)
-        | Step::Asked
-        | Step::Opened(_)
-        | Step::Closed(_)
-        | Step::Placed { .. }
-        | Step::Buffered { .. }
-        | Step::Requested { .. }
-        | Step::Tried(_)
-        | Step::Passed
-        | Step::Terminated(_)
-        | Step::Fault(_)
-        | Step::Idle => 0,
+    match endpoint.in_order_point(number) {
+        Ok(point) if point <= MAX_PLACE => Ok(point),
+        Ok(_) => Err(Refusal::TooFar),
+        Err(_) => Err(Refusal::NoSuchStream),
     }
 }
 
-// Does one step at an endpoint.
+// The same, given a place that the point is not past: it is looked up only if that is too far.
 #[inline(always)]
-fn step(endpoint: &mut Endpoint, number: u32) -> Result<Step<Octets>, Refusal>
+fn point_within(endpoint: &Endpoint, number: u32, reach: u64) -> Result<u64, Refusal>
+    requires { point_at endpoint.now number ≤ reach }
+    ensures refused { IfErr result (λ refusal. refusal_to_work endpoint.now number ≡ Some refusal) }
+    ensures point { IfOk result (λ point. point_at endpoint.now number ≤ point) }
+    ensures near { IfOk result (λ point. point ≤ 2 ^ 62) }
+{
+    if reach <= MAX_PLACE {
+        return Ok(reach);
+    }
+    point(endpoint, number)
+}
+
+// Does one step at an endpoint. The in-order point is not past `reach`, before it and after it.
+#[inline(always)]
+fn step(endpoint: &mut Endpoint, number: u32, reach: &mut u64) -> Result<Step<Octets>, Refusal>
+    requires there { has_stream endpoint.old number ≡ true }
+    requires reach { point_at endpoint.old number ≤ reach.old }
     // The first refusal that applies; if none does, only `NoMemory`.
     ensures refused { IfSome (refusal_to_work endpoint.old number) (λ r. result ≡ Err r) }
     ensures memory { IfNone (refusal_to_work endpoint.old number) (IfErr result (λ e. e ≡ Refusal.NoMemory)) }
     ensures want { result ≡ Err Refusal.NoMemory → TriesAt endpoint.old number }
     ensures step { IfOk result (λ step. Ok step ≡ step_at endpoint.old number) }
     ensures ok { OnOk result (endpoint.new ≡ after_work endpoint.old number) }
+    ensures there { OnOk result (has_stream endpoint.new number ≡ true) }
+    ensures reach { OnOk result (point_at endpoint.new number ≤ reach.new) }
     ensures err { OnErr result (endpoint.new ≡ endpoint.old) }
 {
-    let Ok(point) = endpoint.in_order_point(number) else {
-        return Err(Refusal::NoSuchStream);
-    };
-    if point > MAX_PLACE {
-        return Err(Refusal::TooFar);
-    }
+    let near = point_within(endpoint, number, *reach)?;
     match endpoint.work(number) {
-        Ok(step) => Ok(step),
-        Err(CallRefusal::NoSuchStream) => Err(Refusal::NoSuchStream),
+        Ok(step) => {
+            *reach = near + MOST_MOVED;
+            Ok(step)
+        }
+        Err(CallRefusal::NoSuchStream) => unreachable!(),
         Err(CallRefusal::Refused(_)) => Err(Refusal::NoMemory),
     }
 }
@@ -121,13 +133,13 @@ fn steps(held: &mut Held, number: u32, most: u32, event: &mut Event) -> Result<(
     ensures steps { WorksOn most held.old number (result_err result) event.new held.new }
     ensures kept { OnErr result (event.new ≡ event.old) }
 {
+    let mut reach = point(&held.endpoint, number)?;
     let mut before = 0;
     'steps: loop {
-        match step(&mut held.endpoint, number) {
+        match step(&mut held.endpoint, number, &mut reach) {
             Ok(step) if before < most && is_quiet(&step) => before += 1,
             Ok(step) => {
-                *event = event_of(token_of(&step, number, &held.lines), &step);
-                keep(step, number, &mut held.lines);
+                tell(step, number, &mut held.lines, event);
                 return Ok(());
             }
             Err(refusal) => return Err(refusal),

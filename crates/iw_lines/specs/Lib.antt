@@ -1,4 +1,5 @@
 pub mod Handed
+pub mod Waiting
 pub mod Line
 pub mod Lines
 pub mod Lends

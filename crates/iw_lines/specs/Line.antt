@@ -1,15 +1,16 @@
 -- What waits at one stream.
-use Rattle.std.specs.Prelude.{ℕ, Bool, true, false, List, [], ◌∷◌, ◌++◌, length, drop, nat_lt, slice_index_or, if◌then◌else◌}
+use Rattle.std.specs.Prelude.{ℕ, Bool, true, false, List, [], drop, slice_index_or, if◌then◌else◌}
 use Rattle.iw_lines.specs.declared.handed.Handed.{Handed}
 use Rattle.iw_lines.specs.declared.line.Line.{Line}
 use Rattle.iw_lines.specs.Handed.{nothing_handed}
+use Rattle.iw_lines.specs.Waiting.{pushed}
 
 -- nothing was handed back, and nothing is posted
 abbrev pub new_line : Line
 new_line = record {
   handed = nothing_handed;
-  tokens = record { items = [] };
-  from_buffer = record { items = [] };
+  tokens = [];
+  from_buffer = [];
   payloads = [];
   sent = [];
 }
@@ -18,23 +19,19 @@ abbrev pub with_handed : Line → Handed → Line
 with_handed line handed = record line { handed = handed }
 
 abbrev pub with_tokens : Line → List ℕ → Line
-with_tokens line tokens = record line { tokens = record { items = tokens } }
+with_tokens line tokens = record line { tokens = tokens }
 
 abbrev pub with_flags : Line → List Bool → Line
-with_flags line flags = record line { from_buffer = record { items = flags } }
+with_flags line flags = record line { from_buffer = flags }
 
 abbrev pub with_payloads : Line → List (List ℕ) → Line
 with_payloads line payloads = record line { payloads = payloads }
 
--- behind those that wait, of which a stream has at most 256
-abbrev pub pushed : {A : Type 0} → List A → A → List A
-pushed xs x = if nat_lt (length xs) 256 then xs ++ x ∷ [] else xs
-
 abbrev pub with_token : Line → ℕ → Line
-with_token line token = with_tokens line (pushed line.tokens.items token)
+with_token line token = with_tokens line (pushed line.tokens token)
 
 abbrev pub with_flag : Line → Bool → Line
-with_flag line flag = with_flags line (pushed line.from_buffer.items flag)
+with_flag line flag = with_flags line (pushed line.from_buffer flag)
 
 abbrev pub with_octets : Line → List ℕ → Line
 with_octets line octets = with_payloads line (pushed line.payloads octets)
@@ -49,21 +46,21 @@ with_payload line token octets = with_octets (with_flag (with_token line token) 
 
 -- the token of the message that was posted first; 0 if none is posted
 abbrev pub oldest_token : Line → ℕ
-oldest_token line = slice_index_or line.tokens.items 0 0
+oldest_token line = slice_index_or line.tokens 0 0
 
 -- whether that message was posted from a buffer
 abbrev pub is_from_buffer : Line → Bool
-is_from_buffer line = slice_index_or line.from_buffer.items 0 false
+is_from_buffer line = slice_index_or line.from_buffer 0 false
 
 -- the octets of the first message that was
 abbrev pub oldest_payload : Line → List ℕ
 oldest_payload line = slice_index_or line.payloads 0 []
 
 abbrev pub without_token : Line → Line
-without_token line = with_tokens line (drop 1 line.tokens.items)
+without_token line = with_tokens line (drop 1 line.tokens)
 
 abbrev pub without_flag : Line → Line
-without_flag line = with_flags line (drop 1 line.from_buffer.items)
+without_flag line = with_flags line (drop 1 line.from_buffer)
 
 abbrev pub without_payload : Line → Line
 without_payload line = with_payloads line (drop 1 line.payloads)

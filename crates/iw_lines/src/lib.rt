@@ -9,10 +9,12 @@ mod line;
 mod lines;
 mod payload;
 mod place;
+mod waiting;
 
 pub use handed::Handed;
 pub use lends::Lends;
-pub use line::{Line, MAX_TOKENS};
+pub use line::Line;
 pub use lines::Lines;
 pub use payload::Payload;
 pub use place::Place;
+pub use waiting::{MAX_WAITING, Waiting};

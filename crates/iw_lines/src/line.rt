@@ -1,18 +1,15 @@
-ghost use Rattle.std.specs.Prelude.{◌≡◌, [], OnOk, OnErr};
-ghost use Rattle.iw_lines.specs.Line.{new_line, with_handed, with_token, with_payload, oldest_token, without_oldest, with_sent};
-ghost use Rattle.iw_lines.specs.Line.{with_posted, without_token, with_flag, with_octets, is_from_buffer, without_flag, without_payload, oldest_payload};
+ghost use Rattle.std.specs.Prelude.{◌≡◌, [], IfOk, OnOk, OnErr};
+ghost use Rattle.iw_lines.specs.Line.{new_line, with_handed, with_payload, oldest_token, without_oldest, with_sent};
+ghost use Rattle.iw_lines.specs.Line.{with_posted, with_octets, without_payload, oldest_payload};
 ghost use Rattle.iw_lines.specs.Handed.{nothing_handed};
 
 use crate::handed::Handed;
 use crate::payload::Payload;
-use arrayvec::ArrayVec;
+use crate::waiting::{MAX_WAITING, Waiting};
 use bytes::Bytes;
 use iw_buffer::Contents;
 use std::alloc::{AllocError, Global};
 use std::collections::LinkedList;
-
-/// How many tokens wait at a stream at most: as many as messages may be posted.
-pub const MAX_TOKENS: usize = 256;
 
 /// What waits for the program at one stream.
 #[derive(Drop)]
@@ -20,9 +17,9 @@ pub struct Line {
     /// The buffer that was handed back last and not yet fetched.
     pub handed: Handed,
     /// The tokens of the messages that are posted and not yet told to be done or flushed, oldest first.
-    pub tokens: ArrayVec<u64, MAX_TOKENS>,
+    pub tokens: Waiting<u64>,
     /// Which of those messages were posted from a buffer.
-    pub from_buffer: ArrayVec<bool, MAX_TOKENS>,
+    pub from_buffer: Waiting<bool>,
     /// The octets of those that were, oldest first.
     pub payloads: LinkedList<Bytes>,
     /// The octets of the message that was done or flushed last and not yet fetched; none if it was not posted from a buffer.
@@ -30,16 +27,19 @@ pub struct Line {
 }
 
 impl Line {
-    pub(crate) fn new(alloc: Global) -> Line
-        ensures { result ≡ new_line }
+    /// Nothing waits. An `Err` means out of memory.
+    pub(crate) fn new(alloc: Global) -> Result<Line, AllocError>
+        ensures { IfOk result (λ line. line ≡ new_line) }
     {
-        Line {
+        let tokens = Waiting::new(alloc)?;
+        let from_buffer = Waiting::new(alloc)?;
+        Ok(Line {
             handed: Handed::nothing(alloc),
-            tokens: ArrayVec::new(),
-            from_buffer: ArrayVec::new(),
+            tokens,
+            from_buffer,
             payloads: LinkedList::new(alloc),
             sent: Bytes::new(),
-        }
+        })
     }
 
     /// Keeps what was handed back; what was kept before is freed.
@@ -57,29 +57,11 @@ impl Line {
         std::mem::replace(&mut self.handed, Handed::nothing(alloc))
     }
 
-    // Puts a token behind the others. There is room for 256.
-    fn push_token(&mut self, token: u64)
-        ensures { self.new ≡ with_token self.old token }
-    {
-        if self.tokens.len() < MAX_TOKENS {
-            self.tokens.push(token);
-        }
-    }
-
-    // Puts behind the others whether a message was posted from a buffer.
-    fn push_flag(&mut self, from_buffer: bool)
-        ensures { self.new ≡ with_flag self.old from_buffer }
-    {
-        if self.from_buffer.len() < MAX_TOKENS {
-            self.from_buffer.push(from_buffer);
-        }
-    }
-
     // Puts a message's octets behind the others.
     fn push_octets(&mut self, payload: Payload)
         ensures { self.new ≡ with_octets self.old payload }
     {
-        if self.payloads.len() < MAX_TOKENS {
+        if self.payloads.len() < MAX_WAITING {
             let mut list = payload.into_list();
             let _ = self.payloads.append(&mut list);
         }
@@ -89,38 +71,17 @@ impl Line {
     pub(crate) fn push(&mut self, token: u64)
         ensures { self.new ≡ with_posted self.old token }
     {
-        self.push_token(token);
-        self.push_flag(false);
+        self.tokens.push(token);
+        self.from_buffer.push(false);
     }
 
     /// The same for a message that was posted from a buffer, whose octets are kept.
     pub(crate) fn push_payload(&mut self, token: u64, payload: Payload)
         ensures { self.new ≡ with_payload self.old token payload }
     {
-        self.push_token(token);
-        self.push_flag(true);
+        self.tokens.push(token);
+        self.from_buffer.push(true);
         self.push_octets(payload);
-    }
-
-    /// The oldest token; 0 if there is none.
-    pub(crate) fn oldest(&self) -> u64
-        ensures { result ≡ oldest_token self.now }
-    {
-        match self.tokens.as_slice().first() {
-            Some(token) => *token,
-            None => 0,
-        }
-    }
-
-    // Takes out whether the oldest message was posted from a buffer.
-    fn pop_flag(&mut self) -> bool
-        ensures flag { result ≡ is_from_buffer self.old }
-        ensures after { self.new ≡ without_flag self.old }
-    {
-        if self.from_buffer.is_empty() {
-            return false;
-        }
-        self.from_buffer.remove(0)
     }
 
     // Takes out the oldest octets that are kept.
@@ -144,10 +105,10 @@ impl Line {
     /// Moves the octets that are kept to be fetched to where they are wanted, in place of those that were there. An `Err`
     /// means out of memory, and changes nothing.
     pub(crate) fn fetch_sent(&mut self, alloc: Global, to: &mut Contents) -> Result<(), AllocError>
-        ensures octets { OnOk result (to.new ≡ self.old.sent) }
+        ensures octets { OnOk result (to.new.octets ≡ self.old.sent) }
         ensures ok { OnOk result (self.new ≡ with_sent self.old []) }
         ensures err { OnErr result (self.new ≡ self.old) }
-        ensures back { OnErr result (to.new ≡ to.old) }
+        ensures back { OnErr result (to.new.octets ≡ to.old.octets) }
     {
         let sent = std::mem::replace(&mut self.sent, Bytes::new());
         match to.take_back(alloc, sent) {
@@ -159,25 +120,18 @@ impl Line {
         }
     }
 
-    // Takes the oldest token out, if there is one.
-    fn pop_token(&mut self)
-        ensures { self.new ≡ without_token self.old }
+    /// Takes the oldest message out, and returns its token; 0 if there is none. Its octets are kept to be fetched if it was
+    /// posted from a buffer, and else none are.
+    pub(crate) fn pop(&mut self) -> u64
+        ensures token { result ≡ oldest_token self.old }
+        ensures after { self.new ≡ without_oldest self.old }
     {
-        if !self.tokens.is_empty() {
-            self.tokens.remove(0);
-        }
-    }
-
-    /// Takes the oldest message out, if there is one. Its octets are kept to be fetched if it was posted from a buffer, and
-    /// else none are.
-    pub(crate) fn pop(&mut self)
-        ensures { self.new ≡ without_oldest self.old }
-    {
-        self.pop_token();
-        self.sent = if self.pop_flag() {
+        let token = self.tokens.pop().unwrap_or(0);
+        self.sent = if self.from_buffer.pop().unwrap_or(false) {
             self.pop_octets()
         } else {
             Bytes::new()
         };
+        token
     }
 }

@@ -156,10 +156,10 @@ impl Lines {
         number: u32,
         to: &mut Contents,
     ) -> Result<(), AllocError>
-        ensures octets { OnOk result (to.new ≡ (line_at self.old number).sent) }
+        ensures octets { OnOk result (to.new.octets ≡ (line_at self.old number).sent) }
         ensures ok { OnOk result (self.new ≡ with_line self.old number (with_sent (line_at self.old number) [])) }
         ensures err { OnErr result (self.new ≡ self.old) }
-        ensures back { OnErr result (to.new ≡ to.old) }
+        ensures back { OnErr result (to.new.octets ≡ to.old.octets) }
     {
         let Some(place) = self.places.get_mut(&number) else {
             *to = Contents::nothing(alloc);
@@ -168,24 +168,15 @@ impl Lines {
         place.fetch_sent(alloc, to)
     }
 
-    /// The oldest token of a stream; 0 if it has none.
-    pub fn oldest(&self, number: u32) -> u64
-        ensures { result ≡ oldest_token (line_at self.now number) }
-    {
-        match self.places.get(&number) {
-            Some(place) => place.oldest(),
-            None => 0,
-        }
-    }
-
-    /// Takes the oldest message of a stream out, if it has one. Its octets are kept to be fetched if it was posted from a
-    /// buffer, and else none are.
-    pub fn pop(&mut self, number: u32)
-        ensures { self.new ≡ with_line self.old number (without_oldest (line_at self.old number)) }
+    /// Takes the oldest message of a stream out, and returns its token; 0 if the stream has none. Its octets are kept to be
+    /// fetched if it was posted from a buffer, and else none are.
+    pub fn pop(&mut self, number: u32) -> u64
+        ensures token { result ≡ oldest_token (line_at self.old number) }
+        ensures after { self.new ≡ with_line self.old number (without_oldest (line_at self.old number)) }
     {
         let Some(place) = self.places.get_mut(&number) else {
-            return;
+            return 0;
         };
-        place.pop();
+        place.pop()
     }
 }

@@ -28,7 +28,7 @@ impl Place {
     pub(crate) fn new(alloc: Global) -> Result<Place, AllocError>
         ensures { IfOk result (λ place. place ≡ new_line) }
     {
-        let line = Box::new(alloc, Line::new(alloc))?;
+        let line = Box::new(alloc, Line::new(alloc)?)?;
         Ok(Place { line })
     }
 
@@ -70,23 +70,18 @@ impl Place {
     }
 
     pub(crate) fn fetch_sent(&mut self, alloc: Global, to: &mut Contents) -> Result<(), AllocError>
-        ensures octets { OnOk result (to.new ≡ self.old.sent) }
+        ensures octets { OnOk result (to.new.octets ≡ self.old.sent) }
         ensures ok { OnOk result (self.new ≡ with_sent self.old []) }
         ensures err { OnErr result (self.new ≡ self.old) }
-        ensures back { OnErr result (to.new ≡ to.old) }
+        ensures back { OnErr result (to.new.octets ≡ to.old.octets) }
     {
         self.line.fetch_sent(alloc, to)
     }
 
-    pub(crate) fn oldest(&self) -> u64
-        ensures { result ≡ oldest_token self.now }
+    pub(crate) fn pop(&mut self) -> u64
+        ensures token { result ≡ oldest_token self.old }
+        ensures after { self.new ≡ without_oldest self.old }
     {
-        self.line.oldest()
-    }
-
-    pub(crate) fn pop(&mut self)
-        ensures { self.new ≡ without_oldest self.old }
-    {
-        self.line.pop();
+        self.line.pop()
     }
 }

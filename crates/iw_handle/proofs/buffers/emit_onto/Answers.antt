@@ -10,3 +10,6 @@ returns-in-Err-Refused-clause-want c = λ wanting.
     is_frame (emission_at c.args.endpoint.now c.args.number)
     (λ is. false≢true (c.in-Err-Refused.ensures.memory there is))
     (λ fault is. false≢true (c.in-Err-Refused.ensures.denied there fault is))
+
+pub returns-in-Err-Refused-clause-room : goal.returns-in-Err-Refused-clause-room
+returns-in-Err-Refused-clause-room c = λ wanting fits. c.in-Err-Refused.ensures.room (sym c.in-Ok.ensures.stream) fits

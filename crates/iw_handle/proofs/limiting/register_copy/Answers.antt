@@ -1,4 +1,4 @@
-use Rattle.std.proofs.Common.{◌≡◌, List, ℕ, length}
+use Rattle.std.proofs.Common.{◌≡◌, length}
 use Rattle.iw_handle.specs.Limiting.{refusal_to_limit}
 use Rattle.iw_handle.proofs.Chains.{refused_is_err, why_err}
 use Rattle.iw_handle.proofs.limiting.register_copy.Goals as goal

@@ -1,4 +1,4 @@
-use Rattle.std.proofs.Common.{◌≡◌, List, ℕ}
+use Rattle.std.proofs.Common.{◌≡◌}
 use Rattle.iw_handle.specs.Streams.{refusal_to_post, write_of}
 use Rattle.iw_handle.proofs.Chains.{refused_is_err, why_err}
 use Rattle.iw_handle.proofs.posting.post_write.Goals as goal

@@ -42,7 +42,7 @@ into_parts_spec 𝓤 𝓛 𝓜 𝓡 wired =
     qed 𝓛 ((‵ ftrue ⊛ ‵ (fsep (Buffer.own_val d z.0.4.0) ftrue)) ∷ raw (emp 𝓤) ∷ []) ∵ split ! $ drop ! $ fsplit ! $
     buffer_out ! d z.0.4.0 (λ h ws fits. move ! (2 ∷ 3 ∷ []) $ drop ! $ drop ! $
     suffices ! (Run (both (ptr_val d.at) h ∷ [])) (subst (λ (us : List Val). ent 𝓤 (Run (both (ptr_val d.at) h ∷ [])) (Run us)) (sym (λ i. ws i ++ [])) (id⊢ 𝓤 (Run (both (ptr_val d.at) h ∷ [])))) $
-    owned_tested ! a d.at d.state
+    owned_tested ! a d.at d.state d.room
     (λ is no.
     suffices ! (Run (both vnull h ∷ [])) (subst (λ (p : Ptr). ent 𝓤 (Run (both vnull h ∷ [])) (Run (both (ptr_val p) h ∷ []))) (sym is) (id⊢ 𝓤 _)) $
     enter ! 𝓣.C 𝓣.Λ fn (both vnull h ∷ []) Post $ alloc_all ! (λ l. pass_all ! refl ((and_tt _ fits.0, (record { fits = lit< tt }, (fits.1, tt))), tt) $ let Ev = env fn.locals l in
@@ -52,10 +52,10 @@ into_parts_spec 𝓤 𝓛 𝓜 𝓡 wired =
     (λ _. sets_last ! (agg ! (and_then ! (lit ! tt) (no_more !))) refl (tt, (record { fits = lit< tt }, tt)) $
     exec ! 𝓣.C 𝓣.Λ Ev (after 4 fn.body) (at_ret Ev Post) $ sets ! (of_opd ! (get ! refl)) refl (tt, (record { fits = lit< tt }, tt)) $
     returns ! (look_at ! 0 refl) $ free_all ! refl $ drop ! $ use0 𝓛 (‵ (Out.own_val None (live 0 vnil ∷ []))) (none_of 𝓛 Parts) $
-    suffices ! _ (ends_at 𝓛 f.ended stayed c z (live 0 vnil) None (tt, tt) (tt, tt)) $ says ! (sym no) $
+    suffices ! _ (ends_at 𝓛 f.ended stayed c z (live 0 vnil) None (tt, tt) (tt, tt)) $ says ! (sym no, tt) $
     nothing ! $ nothing ! $ fjoin ! $ join ! $ nothing ! $ join ! $ done !)
     (λ wrong. absurd wrong)))
-    (λ b o x is some t.
+    (λ b o x is some roomy t.
     let w : Val = word E h b o in let v : Val = live 1 (vcons w vnil) in let made : Parts.Denot = record { ptr = block_ptr b o; alloc = a; value = x } in let typed = box_typed E h b o fits in
     let good : Good (layout Out) v = (and_tt _ typed.0, (record { fits = lit< tt }, (typed.1, tt))) in
     suffices ! (Run (w ∷ [])) (subst (λ (p : Ptr). ent 𝓤 (Run (w ∷ [])) (Run (both (ptr_val p) h ∷ []))) (sym is) (id⊢ 𝓤 _)) $
@@ -70,5 +70,5 @@ into_parts_spec 𝓤 𝓛 𝓜 𝓡 wired =
     returns ! (look_at ! 0 refl) $ free_all ! refl $
     fsplit ! $ box_in E ! (record { ptr = block_ptr b o; alloc = a; value = x }) b o x refl refl $
     use1 𝓛 (‵ (Parts.own_val made (w ∷ []))) (id⊢ 𝓤 _) $ use1 𝓛 (‵ (Out.own_val (Some made) (v ∷ []))) (Some-of 𝓛 Parts made w) $
-    suffices ! _ (ends_at 𝓛 f.ended stayed c z v (Some made) (tt, tt) (tt, tt)) $ says ! (sym some) $
+    suffices ! _ (ends_at 𝓛 f.ended stayed c z v (Some made) (tt, tt) (tt, tt)) $ says ! (sym some, sym roomy) $
     nothing ! $ nothing ! $ fjoin ! $ join ! $ nothing ! $ join ! $ done !)))))

@@ -33,7 +33,7 @@ of_parts_spec 𝓤 𝓛 𝓜 𝓡 wired =
     let v : D E = record { ptr = z.0.3.0.ptr; alloc = z.0.3.0.alloc; value = z.0.3.0.value } in
     qed 𝓛 ((‵ ftrue ⊛ ‵ (fsep ((B E).own_val v z.0.4.0) ftrue)) ∷ raw (emp 𝓤) ∷ []) ∵ split ! $ drop ! $ fsplit ! $
     box_out E ! v z.0.4.0 (λ b o h e ws fits. fjoin ! $ move ! (2 ∷ 3 ∷ []) $ drop ! $ drop ! $
-    let w = word E h b o in let made : Buffer.Denot = record { at = block_ptr b o; alloc = v.alloc; state = Some v.value } in
+    let w = word E h b o in let made : Buffer.Denot = record { at = block_ptr b o; alloc = v.alloc; state = Some v.value.octets; room = v.value.room } in
     suffices ! (Run (w ∷ [])) (subst (λ (us : List Val). ent 𝓤 (Run (w ∷ [])) (Run us)) (sym (λ i. ws i ++ [])) (id⊢ 𝓤 (Run (w ∷ [])))) $
     enter ! 𝓣.C 𝓣.Λ fn (w ∷ []) Post $ alloc_all ! (λ l. pass_all ! refl (box_typed E h b o fits, tt) $
     sets ! (of_opd ! (get_in ! (fld ! refl (stop !)) (sub ! 0 refl (whole !)))) refl (tt, tt) $
@@ -41,5 +41,5 @@ of_parts_spec 𝓤 𝓛 𝓜 𝓡 wired =
     sets ! (of_opd ! (get ! refl)) refl (tt, tt) $
     sets ! (agg ! (and_then ! (get ! refl) (and_then ! (get ! refl) (no_more !)))) refl (box_typed E h b o fits) $
     returns ! (look_at ! 0 refl) $ free_all ! refl $ buffer_in ! made h $
-    suffices ! _ (ends_at 𝓛 f.ended stayed c z w made (tt, tt) (tt, tt)) $ says ! refl $
+    suffices ! _ (ends_at 𝓛 f.ended stayed c z w made (tt, tt) (tt, tt)) $ says ! (refl, refl) $
     nothing ! $ nothing ! $ fjoin ! $ join ! $ nothing ! $ join ! $ done !)))

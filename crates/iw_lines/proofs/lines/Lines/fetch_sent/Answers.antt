@@ -1,4 +1,4 @@
-use Rattle.std.proofs.Common.{rules, ◌≡◌, ◌∙◌, sym, ap, subst, Some, None, []}
+use Rattle.std.proofs.Common.{rules, ◌≡◌, ◌∙◌, ap, subst, Some, None, []}
 use Rattle.std.specs.Prelude.{nat_eq, OnOk}
 use Rattle.std.specs.HashMap as hash
 use Rattle.iw_lines.specs.declared.line.Line.{Line}
@@ -20,7 +20,7 @@ pub returns-clause-octets : goal.returns-clause-octets
 returns-clause-octets c =
     let was : hash.get nat_eq c.self.inside.places c.args.number ≡ Some c.in-Some.place.now = search rules in
     let here = found c.self.inside.places c.args.self.now c.args.number c.in-Some.place.now c.self.view_is c.ranges.number.fits was in
-    subst (λ (line : Line). OnOk c.fetch_sent.result (c.fetch_sent.new.to ≡ line.sent)) here c.fetch_sent.ensures.octets
+    subst (λ (line : Line). OnOk c.fetch_sent.result (c.fetch_sent.new.to.octets ≡ line.sent)) here c.fetch_sent.ensures.octets
 
 pub returns-clause-ok : goal.returns-clause-ok
 returns-clause-ok c =
