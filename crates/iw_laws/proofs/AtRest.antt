@@ -30,7 +30,7 @@ use Rattle.iw_laws.specs.Sends.{asked_of, farewells, ready_of}
 use Rattle.iw_laws.specs.Faithful.{reads_among}
 use Rattle.iw_laws.specs.Rest.{HasRest, Over, AwaitsFrame, AwaitsAnswer, NoFrame}
 use Rattle.iw_laws.specs.AtRest.{AreAsked, sent_whole, idles, HaveArrived, AllArrived}
-use Rattle.iw_laws.specs.Rules.{FitsPosted, start, Follows, state_after}
+use Rattle.iw_laws.specs.Rules.{FitsPosted}
 use Rattle.iw_laws.proofs.States.{Connected}
 use Rattle.iw_laws.proofs.Lists.{Each, each-both, each-first}
 use Rattle.iw_laws.proofs.Tales.{Tale}
@@ -48,7 +48,8 @@ use Rattle.iw_laws.proofs.Responses.{AnswerFits, SinkFits, ready_fit, sent_ended
 use Rattle.iw_laws.proofs.SentWhole.{AreSentIn, are_sent_in}
 use Rattle.iw_laws.proofs.Delivered.{reread, all_short, read_again, joined-plain, count-plain, plain-reread, ready_sends, ready_writes, sends_whole, whole_of, received_are}
 use Rattle.iw_laws.proofs.Pools.{held, tale_seen as tale}
-use Rattle.iw_laws.proofs.Whole.{Seen as BothSeen, seen_at}
+use Rattle.iw_laws.proofs.Whole.{Seen as BothSeen}
+use Rattle.iw_laws.proofs.Runs.{Run}
 use Rattle.iw_laws.proofs.Placed.{requests-reread, sinks_fit, no_requests, no_responses, no_ended, farewell_fits, all_same}
 use Rattle.iw_laws.proofs.Laws.{fitting, answering_all, idle_at_rest}
 
@@ -204,15 +205,15 @@ no_next over t (AwaitsFrame f) r = absurd (not_both t.start r.open_now f.awaited
 no_next over t (AwaitsAnswer shut w) r = absurd (true≢false (sym r.open_now ∙ shut))
 no_next over t (NoFrame now none early) r = none
 
-pub all_arrived : (trace : List (Entry Octets)) → Follows start trace → AllArrived trace
-all_arrived trace follows past future x n is honest has =
-    let k : BothSeen past (state_after start past) = seen_at past (idles (other x) n ∷ future) trace follows is in
+pub all_arrived : (trace : List (Entry Octets)) → Run trace → AllArrived trace
+all_arrived trace run past future x n is honest has =
+    let k : BothSeen past (run.left past) = run.seen past (idles (other x) n ∷ future) is in
     let p = k.pairs x n in
     let out = p.out (honest.calm (other x)) in
     let back = p.back (honest.calm x) in
-    let rest = idle_at_rest trace follows past (idles (other x) n) future is in
+    let rest = idle_at_rest trace run past (idles (other x) n) future is in
     let open_now : is_open (held p.own_peer).stream.start ≡ true = sym (ap is_open p.own_peer.own.track.begins.start) ∙ has.reads.open_now in
-    let asked = (answering_all trace follows past (idles (other x) n ∷ future) is x n honest).asked in
+    let asked = (answering_all trace run past (idles (other x) n ∷ future) is x n honest).asked in
     let sinks : Each SinkFits (asked_of (tale n (acts x past)).story) =
     each-first SinkFits (asked_of (tale n (acts x past)).story) asked.0 (subst (Each SinkFits) (sym asked.1) (sinks_fit (ready_of (tale n (acts (other x) past)).story ++ (tale n (acts (other x) past)).posted)
     (ready_fit (tale n (acts (other x) past)).story.start (tale n (acts (other x) past)).posted p.own_peer.own.emits.fit))) in

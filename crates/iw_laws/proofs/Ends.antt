@@ -26,7 +26,7 @@ use Rattle.iw_stream.specs.declared.answer.Role.{Role}
 use Rattle.iw_laws.specs.Words.{Octets, Opening, stream_acts, stream_acts_by, openings, openings_by, opening_in, opening_of, config_for, was_opened, table_after, table_by, peer_at}
 use Rattle.iw_endpoint.specs.declared.refusal.OpenSharedRefusal.{OpenSharedRefusal}
 use Rattle.iw_endpoint.specs.Endpoint as endpoint
-use Rattle.iw_endpoint.specs.Endpoint.{EndpointState, pool_of, left_of, open_shared_refusal, open_shared_refusal_of, number_refusal, request_refusal, unshared, stream_at, stream_numbers, unopened as no_stream, stream_of, has_stream, open_refusal, no_closed, closed_at}
+use Rattle.iw_endpoint.specs.Endpoint.{EndpointState, pool_of, left_of, open_shared_refusal, open_shared_refusal_of, number_refusal, request_refusal, unshared, stream_at, stream_numbers, unopened as no_stream, stream_of, has_stream, is_taken, open_refusal, no_closed, closed_at}
 use Rattle.iw_endpoint.specs.Isolation.{HasDomains, IsOwn, after, unless}
 use Rattle.iw_endpoint.proofs.Steps.{concerns_one}
 use Rattle.iw_endpoint.proofs.Tables.{worked_peer, emit_peer}
@@ -49,8 +49,7 @@ unopened (o ∷ os) h = absurd (false≢true (sym h))
 pub record EndSeen (s : EndState) (done : List (Act Octets)) : Type 0 where
   pub table : s.endpoint.table ≡ table_after done
   pub domains : HasDomains s.endpoint
-  pub numbers : length s.endpoint.streams ≡ 64
-  pub wires : length s.wires ≡ 64
+  pub wires : length s.wires ≡ length s.endpoint.streams
   pub none_closed : s.endpoint.closed ≡ no_closed
   pub opened : (n : ℕ) → has_stream s.endpoint n ≡ was_opened (openings n done)
   pub peer : (n : ℕ) → has_stream s.endpoint n ≡ true → peer_of (stream_at s.endpoint n) ≡ peer_at n done
@@ -64,17 +63,18 @@ opens_same n done act e = openings-push n done act ∙ ap (λ z. openings n done
 -- the fields that an opening needs
 pub record Opens (s : EndState) (n : ℕ) : Type 0 where
   pub fresh : has_stream s.endpoint n ≡ false
-  pub number : n < 64
+  pub number : n < length s.endpoint.streams
 
-pub numbered : (s : EndState) (n pd : ℕ) → None ≡ number_refusal s.endpoint n pd → Opens s n
-numbered s n pd e = go (nat_le stream_numbers n) (has_stream s.endpoint n) (is_some (closed_at s.endpoint n)) refl refl (is_added s.endpoint.table pd) e
+-- the number of an opening is one of the application's, and has no stream
+pub numbered : (e : EndpointState) (n pd : ℕ) → None ≡ number_refusal e n pd → (has_stream e n ≡ false) × (n < 64) × (is_taken e n ≡ false)
+numbered e n pd rule = go (nat_le stream_numbers n) (has_stream e n) (is_some (closed_at e n)) refl refl refl (is_added e.table pd) rule
   where
-    go : (beyond has ended : Bool) → nat_le stream_numbers n ≡ beyond → has_stream s.endpoint n ≡ has → (added : Bool)
-        → None ≡ cond beyond (Some BadNumber) (cond (has || ended) (Some NumberTaken) (cond (not added) (Some NoDomain) None)) → Opens s n
-    go true has ended z h added e' = cc
-    go false true ended z h added e' = cc
-    go false false true z h added e' = cc
-    go false false false z h added e' = record { fresh = h; number = grind (arith, nat_tests) }
+    go : (beyond has ended : Bool) → nat_le stream_numbers n ≡ beyond → has_stream e n ≡ has → is_some (closed_at e n) ≡ ended → (added : Bool)
+        → None ≡ cond beyond (Some BadNumber) (cond (has || ended) (Some NumberTaken) (cond (not added) (Some NoDomain) None)) → (has_stream e n ≡ false) × (n < 64) × (is_taken e n ≡ false)
+    go true has ended z h c added rule' = cc
+    go false true ended z h c added rule' = cc
+    go false false true z h c added rule' = cc
+    go false false false z h c added rule' = (h, grind (arith, nat_tests), λ i. h i || c i)
 
 -- no number is of a stream that was closed
 pub never_closed : (n : ℕ) → slice_index_or no_closed n None ≡ None
@@ -89,20 +89,26 @@ never_closed n = none_in 64 n
 pub closed_none : (e : EndpointState) (n : ℕ) → e.closed ≡ no_closed → closed_at e n ≡ None
 closed_none e n none = ap (λ xs. slice_index_or xs n None) none ∙ never_closed n
 
-pub opens : (s : EndState) (n pd : ℕ) (role : Role) (config : Config) → None ≡ open_refusal s.endpoint n pd role config → Opens s n
-opens s n pd role config e = numbered s n pd (go (number_refusal s.endpoint n pd) e)
-  where
-    go : (o : Option OpenRefusal) → None ≡ option_or o (request_refusal role config) → None ≡ o
-    go None h = refl
-    go (Some r) h = absurd (none-some _ h)
+-- no refusal comes where the first does not
+pub unrefused : {R : Type 0} (o p : Option R) → None ≡ option_or o p → None ≡ o
+unrefused None p h = refl
+unrefused (Some r) p h = absurd (none-some _ h)
+
+pub unmapped : {R S : Type 0} (o : Option R) (f : R → S) → None ≡ option_map f o → None ≡ o
+unmapped None f h = refl
+unmapped (Some r) f h = absurd (none-some _ h)
+
+pub numbered_open : (e : EndpointState) (n pd : ℕ) (role : Role) (config : Config) → None ≡ open_refusal e n pd role config → None ≡ number_refusal e n pd
+numbered_open e n pd role config h = unrefused (number_refusal e n pd) (request_refusal role config) h
 
 -- of a stream that shares a pool
-pub opens_shared : (s : EndState) (n pd : ℕ) (role : Role) (config : Config) → None ≡ open_shared_refusal s.endpoint n pd role config → Opens s n
-opens_shared s n pd role config e = numbered s n pd (go (number_refusal s.endpoint n pd) e)
-  where
-    go : (o : Option OpenRefusal) → None ≡ option_or (option_map open_shared_refusal_of o) (option_or (unshared (pool_of s.endpoint pd)) (option_map open_shared_refusal_of (request_refusal role config))) → None ≡ o
-    go None h = refl
-    go (Some r) h = absurd (none-some _ h)
+pub numbered_shared : (e : EndpointState) (n pd : ℕ) (role : Role) (config : Config) → None ≡ open_shared_refusal e n pd role config → None ≡ number_refusal e n pd
+numbered_shared e n pd role config h =
+    unmapped (number_refusal e n pd) open_shared_refusal_of
+    (unrefused (option_map open_shared_refusal_of (number_refusal e n pd)) (option_or (unshared (pool_of e pd)) (option_map open_shared_refusal_of (request_refusal role config))) h)
+
+pub opens : (s : EndState) (n pd : ℕ) → HasDomains s.endpoint → None ≡ number_refusal s.endpoint n pd → Opens s n
+opens s n pd all h = let new = numbered s.endpoint n pd h in record { fresh = new.0; number = omega (arith, new.1, all.2) }
 
 left_peer : (table : Table) (o : Option (List Octets)) (s : StreamState) → peer_of (left_of table o s) ≡ peer_of s
 left_peer table None s = worked_peer table s
@@ -179,17 +185,16 @@ number_there s n h = there s.endpoint.streams n h
 abbrev peer_opened : List Opening → ℕ → Peer
 peer_opened os n = record { domain = (opening_in os).domain; stream = Some n }
 
--- what the streams of the other numbers keep
-pub record KeepsNumber (s : EndState) (done : List (Act Octets)) (act : Act Octets) (n : ℕ) : Type 0 where
-  pub has : has_stream (end_after s act).endpoint n ≡ was_opened (openings n (done ++ act ∷ []))
-  pub peer : has_stream (end_after s act).endpoint n ≡ true → peer_of (stream_at (end_after s act).endpoint n) ≡ peer_at n (done ++ act ∷ [])
-  pub pooled : has_stream (end_after s act).endpoint n ≡ true → shares (stream_at (end_after s act).endpoint n) ≡ (opening_of n (done ++ act ∷ [])).shared
-  pub unused : has_stream (end_after s act).endpoint n ≡ false → stream_acts n (done ++ act ∷ []) ≡ []
+-- what is so of a number behind an act that leaves this end
+pub record KeepsNumber (s' : EndState) (done : List (Act Octets)) (act : Act Octets) (n : ℕ) : Type 0 where
+  pub has : has_stream s'.endpoint n ≡ was_opened (openings n (done ++ act ∷ []))
+  pub peer : has_stream s'.endpoint n ≡ true → peer_of (stream_at s'.endpoint n) ≡ peer_at n (done ++ act ∷ [])
+  pub pooled : has_stream s'.endpoint n ≡ true → shares (stream_at s'.endpoint n) ≡ (opening_of n (done ++ act ∷ [])).shared
+  pub unused : has_stream s'.endpoint n ≡ false → stream_acts n (done ++ act ∷ []) ≡ []
 
-keeps_number : (s : EndState) (done : List (Act Octets)) (act : Act Octets) (n : ℕ) → EndSeen s done → EndRule s.endpoint act → slice_index_or (streams_after s.endpoint act) n None ≡ slice_index_or s.endpoint.streams n None → openings_by n act ≡ []
-    → stream_acts_by n act ≡ [] → KeepsNumber s done act n
-keeps_number s done act n k rule left none silent =
-    let same : stream_of (end_after s act).endpoint n ≡ stream_of s.endpoint n = at_act s.endpoint act n rule ∙ left in
+pub keeps_number : (s s' : EndState) (done : List (Act Octets)) (act : Act Octets) (n : ℕ) → EndSeen s done → stream_of s'.endpoint n ≡ stream_of s.endpoint n → openings_by n act ≡ []
+    → stream_acts_by n act ≡ [] → KeepsNumber s' done act n
+keeps_number s s' done act n k same none silent =
     let opened_same : openings n (done ++ act ∷ []) ≡ openings n done = opens_same n done act none in
     record {
       has = ap is_some same ∙ k.opened n ∙ ap was_opened (sym opened_same);
@@ -212,17 +217,16 @@ first_shares true = refl
 first_shares false = refl
 
 -- a stream is opened
-number_opened : (s : EndState) (done : List (Act Octets)) (act : Act Octets) (m n : ℕ) (o : Opening) → EndSeen s done → EndRule s.endpoint act → Opens s m → openings_by n act ≡ cond (eqb m n) (o ∷ []) []
-    → streams_after s.endpoint act ≡ slice_set s.endpoint.streams m (Some (connected o (Some m)).stream) → stream_acts_by n act ≡ [] → KeepsNumber s done act n
-number_opened s done act m n o k rule new one left silent = go (eqb m n) refl
+pub number_opened : (s s' : EndState) (done : List (Act Octets)) (act : Act Octets) (m n : ℕ) (o : Opening) → EndSeen s done → Opens s m → openings_by n act ≡ cond (eqb m n) (o ∷ []) []
+    → s'.endpoint.streams ≡ slice_set s.endpoint.streams m (Some (connected o (Some m)).stream) → stream_acts_by n act ≡ [] → KeepsNumber s' done act n
+number_opened s s' done act m n o k new one left silent = go (eqb m n) refl
   where
-    go : (b : Bool) → eqb m n ≡ b → KeepsNumber s done act n
-    go false e = keeps_number s done act n k rule (ap (λ xs. slice_index_or xs n None) left ∙ at_other s m n (Some (connected o (Some m)).stream) e) (one ∙ opening_none (eqb m n) o e) silent
+    go : (b : Bool) → eqb m n ≡ b → KeepsNumber s' done act n
+    go false e = keeps_number s s' done act n k (ap (λ xs. slice_index_or xs n None) left ∙ at_other s m n (Some (connected o (Some m)).stream) e) (one ∙ opening_none (eqb m n) o e) silent
     go true e =
         let same : m ≡ n = eqb-true m n e in
-        let room : m < length s.endpoint.streams = omega (arith, new.number, k.numbers) in
-        let here : stream_of (end_after s act).endpoint n ≡ Some (connected o (Some m)).stream =
-        at_act s.endpoint act n rule ∙ ap (λ xs. slice_index_or xs n None) left ∙ subst (λ j. slice_index_or (slice_set s.endpoint.streams m (Some (connected o (Some m)).stream)) j None ≡ Some (connected o (Some m)).stream) same (at_same s m (connected o (Some m)).stream room) in
+        let here : stream_of s'.endpoint n ≡ Some (connected o (Some m)).stream =
+        ap (λ xs. slice_index_or xs n None) left ∙ subst (λ j. slice_index_or (slice_set s.endpoint.streams m (Some (connected o (Some m)).stream)) j None ≡ Some (connected o (Some m)).stream) same (at_same s m (connected o (Some m)).stream new.number) in
         let before : openings n done ≡ [] = unopened (openings n done) (sym (k.opened n) ∙ subst (λ j. has_stream s.endpoint j ≡ false) same new.fresh) in
         let now : openings n (done ++ act ∷ []) ≡ o ∷ [] = openings-push n done act ∙ (λ i. before i ++ (one ∙ opening_one (eqb m n) o e) i) in
         record {
@@ -232,25 +236,30 @@ number_opened s done act m n o k rule new one left silent = go (eqb m n) refl
           unused = λ h. absurd (true≢false (sym (ap is_some here) ∙ h));
         }
 
-number_after : (s peer : EndState) (done : List (Act Octets)) (act : Act Octets) (n : ℕ) → EndSeen s done → Rule s peer act → KeepsNumber s done act n
-number_after s peer done (Domain pd refused) n k rule = keeps_number s done (Domain pd refused) n k rule.0 refl refl refl
-number_after s peer done (Register pd base rights octets answer) n k rule = keeps_number s done (Register pd base rights octets answer) n k rule.0 refl refl refl
-number_after s peer done (Deregister stag answer) n k rule = keeps_number s done (Deregister stag answer) n k rule.0 refl refl refl
-number_after s peer done (Invalidate stag refused) n k rule = keeps_number s done (Invalidate stag refused) n k rule.0 refl refl refl
-number_after s peer done (Store stag to octets refused) n k rule = keeps_number s done (Store stag to octets refused) n k rule.0 refl refl refl
-number_after s peer done (Share pd refused) n k rule = keeps_number s done (Share pd refused) n k rule.0 refl refl refl
-number_after s peer done (Pool pd len refused) n k rule = keeps_number s done (Pool pd len refused) n k rule.0 refl refl refl
-number_after s peer done (Unpool pd answer) n k rule = keeps_number s done (Unpool pd answer) n k rule.0 refl refl refl
-number_after s peer done (Open m pd role options private (Some refusal)) n k rule = keeps_number s done (Open m pd role options private (Some refusal)) n k rule.0 refl refl refl
-number_after s peer done (OpenShared m pd role options private (Some refusal)) n k rule = keeps_number s done (OpenShared m pd role options private (Some refusal)) n k rule.0 refl refl refl
+-- an act that opens nothing, and is of no stream
+number_kept : (s : EndState) (done : List (Act Octets)) (act : Act Octets) (n : ℕ) → EndSeen s done → EndRule s.endpoint act → slice_index_or (streams_after s.endpoint act) n None ≡ stream_of s.endpoint n → openings_by n act ≡ [] → stream_acts_by n act ≡ []
+    → KeepsNumber (end_after s act) done act n
+number_kept s done act n k rule left none silent = keeps_number s (end_after s act) done act n k (at_act s.endpoint act n rule ∙ left) none silent
+
+number_after : (s peer : EndState) (done : List (Act Octets)) (act : Act Octets) (n : ℕ) → EndSeen s done → Rule s peer act → KeepsNumber (end_after s act) done act n
+number_after s peer done (Domain pd refused) n k rule = number_kept s done (Domain pd refused) n k rule.0 refl refl refl
+number_after s peer done (Register pd base rights octets answer) n k rule = number_kept s done (Register pd base rights octets answer) n k rule.0 refl refl refl
+number_after s peer done (Deregister stag answer) n k rule = number_kept s done (Deregister stag answer) n k rule.0 refl refl refl
+number_after s peer done (Invalidate stag refused) n k rule = number_kept s done (Invalidate stag refused) n k rule.0 refl refl refl
+number_after s peer done (Store stag to octets refused) n k rule = number_kept s done (Store stag to octets refused) n k rule.0 refl refl refl
+number_after s peer done (Share pd refused) n k rule = number_kept s done (Share pd refused) n k rule.0 refl refl refl
+number_after s peer done (Pool pd len refused) n k rule = number_kept s done (Pool pd len refused) n k rule.0 refl refl refl
+number_after s peer done (Unpool pd answer) n k rule = number_kept s done (Unpool pd answer) n k rule.0 refl refl refl
+number_after s peer done (Open m pd role options private (Some refusal)) n k rule = number_kept s done (Open m pd role options private (Some refusal)) n k rule.0 refl refl refl
+number_after s peer done (OpenShared m pd role options private (Some refusal)) n k rule = number_kept s done (OpenShared m pd role options private (Some refusal)) n k rule.0 refl refl refl
 number_after s peer done (Open m pd role options private None) n k rule =
-    number_opened s done (Open m pd role options private None) m n (opening_by false pd role options private) k rule.0 (opens s m pd role (config_for options private) rule.0) refl refl refl
+    number_opened s (end_after s (Open m pd role options private None)) done (Open m pd role options private None) m n (opening_by false pd role options private) k (opens s m pd k.domains (numbered_open s.endpoint m pd role (config_for options private) rule.0)) refl (streams_left s.endpoint (Open m pd role options private None) rule.0) refl
 number_after s peer done (OpenShared m pd role options private None) n k rule =
-    number_opened s done (OpenShared m pd role options private None) m n (opening_by true pd role options private) k rule.0 (opens_shared s m pd role (config_for options private) rule.0) refl refl refl
+    number_opened s (end_after s (OpenShared m pd role options private None)) done (OpenShared m pd role options private None) m n (opening_by true pd role options private) k (opens s m pd k.domains (numbered_shared s.endpoint m pd role (config_for options private) rule.0)) refl (streams_left s.endpoint (OpenShared m pd role options private None) rule.0) refl
 number_after s peer done (Stream m act) n k rule = go (eqb m n) refl
   where
-    go : (b : Bool) → eqb m n ≡ b → KeepsNumber s done (Stream m act) n
-    go false e = keeps_number s done (Stream m act) n k rule.0 (at_other s m n (Some (left_at s.endpoint m act)) e) refl (silent_other m n act e)
+    go : (b : Bool) → eqb m n ≡ b → KeepsNumber (end_after s (Stream m act)) done (Stream m act) n
+    go false e = number_kept s done (Stream m act) n k rule.0 (at_other s m n (Some (left_at s.endpoint m act)) e) refl (silent_other m n act e)
     go true e =
         let same : m ≡ n = eqb-true m n e in
         let x : StreamState = left_at s.endpoint m act in
@@ -312,8 +321,7 @@ pub end_step : (s peer : EndState) (done : List (Act Octets)) (act : Act Octets)
 end_step s peer done act k rule = record {
   table = table_left s.endpoint act rule.0 ∙ ap (λ z. table_by z act) k.table ∙ sym (table-push done act);
   domains = domains_after s.endpoint act k.none_closed rule.0 k.domains;
-  numbers = ap length (streams_left s.endpoint act rule.0) ∙ numbers_after s act ∙ k.numbers;
-  wires = length-wires s act ∙ k.wires;
+  wires = length-wires s act ∙ k.wires ∙ sym (ap length (streams_left s.endpoint act rule.0) ∙ numbers_after s act);
   none_closed = closed_left s.endpoint act ∙ k.none_closed;
   opened = λ n. (number_after s peer done act n k rule).has;
   peer = λ n. (number_after s peer done act n k rule).peer;

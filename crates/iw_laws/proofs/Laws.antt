@@ -1,4 +1,4 @@
--- The laws, of whatever follows the rules.
+-- The laws, of every run.
 use Rattle.iw_ranges.specs.Nearest.{place_near, before_start}
 use Rattle.iw_ranges.specs.declared.Delivery.{Delivery}
 use Rattle.iw_stream.specs.declared.answer.FirstRefusal.TheVariants.{Late}
@@ -123,6 +123,8 @@ use Rattle.iw_laws.proofs.Onces.{are_once}
 use Rattle.iw_laws.proofs.Placements.{placements}
 use Rattle.iw_laws.proofs.Releases.{left_acts, left_apart}
 use Rattle.iw_laws.proofs.Whole.{Seen as BothSeen, seen_at, follows_split}
+use Rattle.iw_laws.proofs.Runs.{Run, PlainRule, PlainRuleIn}
+use Rattle.iw_laws.specs.Plain.{PlainAnswered, ShowsRegions}
 
 -- ---- honest streams
 
@@ -146,8 +148,8 @@ prefix_of past w k x n honest =
     let p = k.pairs x n in
     received_prefix (held p.own) (tale n (acts x past)) (held p.own_peer) (tale n (acts (other x) past)) p.own.own.emits p.own_peer.own.track (heard past w k x n honest) (p.out (honest.calm (other x))) p.own_peer.own.fills
 
-pub in_order : (trace : List (Entry Octets)) → Follows start trace → InOrder trace
-in_order trace follows past future is x n honest = prefix_of past (state_after start past) (seen_at past future trace follows is) x n honest
+pub in_order : (trace : List (Entry Octets)) → Run trace → InOrder trace
+in_order trace run past future is x n honest = prefix_of past (run.left past) (run.seen past future is) x n honest
 
 -- what was placed for Writes is what was posted, as far as Sends were received
 covers : (past : List (Entry Octets)) (w : State) → BothSeen past w → (x : End) (n : ℕ) → IsHonest n past → (cell : Cell)
@@ -156,8 +158,8 @@ covers past w k x n honest cell =
     let p = k.pairs x n in
     writes_covered (held p.own) (tale n (acts x past)) (held p.own_peer) (tale n (acts (other x) past)) p.own.own.emits p.own_peer.own.track (heard past w k x n honest) (p.out (honest.calm (other x))) cell
 
-pub covered : (trace : List (Entry Octets)) → Follows start trace → Covered trace
-covered trace follows past future is x n honest cell = covers past (state_after start past) (seen_at past future trace follows is) x n honest cell
+pub covered : (trace : List (Entry Octets)) → Run trace → Covered trace
+covered trace run past future is x n honest cell = covers past (run.left past) (run.seen past future is) x n honest cell
 
 -- ---- Reads of an honest stream
 
@@ -179,8 +181,8 @@ answers_reads past w k x n honest =
     let home = hears_all m (held p.own_peer) (tale n (acts (other x) past)) p.own_peer.own o (held p.own) (tale n (acts x past)) p.own.own (fits_both o m (fitting n past honest x)) back out in
     reads_answered (held p.own) (tale n (acts x past)) (held p.own_peer) (tale n (acts (other x) past)) p.own.own.emits p.own.own.track p.own_peer.own.emits p.own_peer.own.track p.own_peer.own.doing.answered there home out back
 
-pub answering_all : (trace : List (Entry Octets)) → Follows start trace → Answering trace
-answering_all trace follows past future is x n honest = answers_reads past (state_after start past) (seen_at past future trace follows is) x n honest
+pub answering_all : (trace : List (Entry Octets)) → Run trace → Answering trace
+answering_all trace run past future is x n honest = answers_reads past (run.left past) (run.seen past future is) x n honest
 
 -- ---- what changes
 
@@ -197,43 +199,36 @@ abbrev tale_with : Opening → List (StreamAct Octets) → Receiving → Tale
 tale_with o done queue = record (tale_of o done) { story = record (story o done) { receiving = queue } }
 
 -- what holds of the acts of a stream holds of those of an end
-on_stream : (P : List (Act Octets) → ℕ → StreamAct Octets → Type 0) (done : List (Act Octets)) (s : EndState) (act : Act Octets) → EndRule s.endpoint act
+on_stream : (P : List (Act Octets) → ℕ → StreamAct Octets → Type 0) (done : List (Act Octets)) (s peer : EndState) (act : Act Octets) → PlainRule s peer act
     → ((n : ℕ) (a : StreamAct Octets) → has_stream s.endpoint n ≡ true → StreamRule s.endpoint.table (connected_at s n).stream a → P done n a) → OnStream P done act
-on_stream P done s (Stream n act) rule h = h n act rule.0 (lent_rule s.endpoint n act rule.1)
-on_stream P done s (Domain pd refused) rule h = tt
-on_stream P done s (Register pd base rights octets answer) rule h = tt
-on_stream P done s (Deregister stag answer) rule h = tt
-on_stream P done s (Invalidate stag refused) rule h = tt
-on_stream P done s (Store stag to octets refused) rule h = tt
-on_stream P done s (Open n pd role options private refused) rule h = tt
-on_stream P done s (Share pd refused) rule h = tt
-on_stream P done s (Pool pd len refused) rule h = tt
-on_stream P done s (Unpool pd answer) rule h = tt
-on_stream P done s (OpenShared n pd role options private refused) rule h = tt
-
--- an entry, in the state that those before it leave
-abbrev Moment : List (Entry Octets) → Entry Octets → Type 0
-Moment past e = BothSeen past (state_after start past) × Rule (end_of e.end (state_after start past)) (end_of (other e.end) (state_after start past)) e.act
-
-moment : (past : List (Entry Octets)) (e : Entry Octets) (future trace : List (Entry Octets)) → Follows start trace → trace ≡ past ++ e ∷ future → Moment past e
-moment past e future trace follows is =
-    (seen_at past (e ∷ future) trace follows is, (follows_split past (e ∷ future) start (subst (Follows start) is follows)).1.0)
+on_stream P done s peer (Stream n act) rule h = h n act rule.0.0 (lent_rule s.endpoint n act rule.0.1)
+on_stream P done s peer (Domain pd refused) rule h = tt
+on_stream P done s peer (Register pd base rights octets answer) rule h = tt
+on_stream P done s peer (Deregister stag answer) rule h = tt
+on_stream P done s peer (Invalidate stag refused) rule h = tt
+on_stream P done s peer (Store stag to octets refused) rule h = tt
+on_stream P done s peer (Open n pd role options private refused) rule h = tt
+on_stream P done s peer (Share pd refused) rule h = tt
+on_stream P done s peer (Pool pd len refused) rule h = tt
+on_stream P done s peer (Unpool pd answer) rule h = tt
+on_stream P done s peer (OpenShared n pd role options private refused) rule h = tt
 
 -- a law of each entry of a stream, by the state before it
-each_stream : (P : List (Act Octets) → ℕ → StreamAct Octets → Type 0) (trace : List (Entry Octets)) → Follows start trace
+each_stream : (P : List (Act Octets) → ℕ → StreamAct Octets → Type 0) (trace : List (Entry Octets)) → Run trace
     → ((done : List (Act Octets)) (s : EndState) (n : ℕ) (c : Connected) (act : StreamAct Octets) → EndKept s done → peer_of c.stream ≡ peer_at n done → StreamRule s.endpoint.table c.stream act
     → Own (opening_of n done) c (tale n done) → P done n act) → AtEach (OnStream P) trace
-each_stream P trace follows one past e future is =
-    let m = moment past e future trace follows is in
-    let w : State = state_after start past in
+each_stream P trace run one past e future is =
+    let w : State = run.left past in
+    let m : BothSeen past w = run.seen past (e ∷ future) is in
+    let rule : PlainRuleIn w e = run.ruled past e future is in
     let s : EndState = end_of e.end w in
-    on_stream P (acts e.end past) s e.act m.1.0 (λ n act opened rule.
-    let h = (m.0.pairs e.end n).own in
+    on_stream P (acts e.end past) s (end_of (other e.end) w) e.act rule (λ n act opened rule.
+    let h = (m.pairs e.end n).own in
     let there = left_acts s.endpoint.table (connected_at s n).stream h.stream (tale n (acts e.end past)) act h.is_left h.own.track rule in
-    one (acts e.end past) s n (held h) act (m.0.ends e.end) (sym (ap peer_of (left_apart h.is_left)) ∙ lent_peer (pool_of s.endpoint (stream_at s.endpoint n).domain) (stream_at s.endpoint n) ∙ (m.0.ends e.end).peer n opened) there.0 h.own)
+    one (acts e.end past) s n (held h) act (m.ends e.end) (sym (ap peer_of (left_apart h.is_left)) ∙ lent_peer (pool_of s.endpoint (stream_at s.endpoint n).domain) (stream_at s.endpoint n) ∙ (m.ends e.end).peer n opened) there.0 h.own)
 
-pub within_all : (trace : List (Entry Octets)) → Follows start trace → Within trace
-within_all trace follows = each_stream WithinStream trace follows (λ done s n c act k peer rule own.
+pub within_all : (trace : List (Entry Octets)) → Run trace → Within trace
+within_all trace run = each_stream WithinStream trace run (λ done s n c act k peer rule own.
     within_stream done n (peer_of c.stream) s.endpoint.table act peer k.table (within (opening_of n done) s.endpoint.table c (tale n done) act (told s.endpoint.table c.stream act (sound c.stream (tale n done) own.track) rule) own))
 
 -- ---- what goes out
@@ -267,8 +262,8 @@ first_frames past w k x n =
     framed s t k us fs (Unspoken b c) = inl (b, none_first us fs c)
     framed s t k us fs (Spoken b) = inr (b ∙ sym (sequence_is s t k (us ++ fs)))
 
-pub emission : (trace : List (Entry Octets)) → Follows start trace → Emission trace
-emission trace follows past future is x n = first_frames past (state_after start past) (seen_at past future trace follows is) x n
+pub emission : (trace : List (Entry Octets)) → Run trace → Emission trace
+emission trace run past future is x n = first_frames past (run.left past) (run.seen past future is) x n
 
 -- where no part of a message was begun, and no request waits, what was sent is all frames of messages and responses
 all_frames : (o : Opening) (c : Connected) (t : Tale) (own : Own o c t) → ended c.stream ≡ false → owes_frame c.stream ≡ false → c.stream.queue.offset ≡ 0 → c.stream.asked.unanswered ≡ [] → own.emits.left ≡ [] → AreAllFrames t.story t.sent own.emits.counts.first
@@ -393,8 +388,8 @@ nothing_stream o c done queue table (Reject private refused) rule own = tt
 nothing_stream o c done queue table (Work step) rule own = tt
 nothing_stream o c done queue table Break rule own = tt
 
-pub nothing_at_rest : (trace : List (Entry Octets)) → Follows start trace → NothingOnlyAtRest trace
-nothing_at_rest trace follows = each_stream NothingStream trace follows (λ done s n c act k peer rule own. nothing_stream (opening_of n done) c (stream_acts n done) (receiving_of n done) s.endpoint.table act rule own)
+pub nothing_at_rest : (trace : List (Entry Octets)) → Run trace → NothingOnlyAtRest trace
+nothing_at_rest trace run = each_stream NothingStream trace run (λ done s n c act k peer rule own. nothing_stream (opening_of n done) c (stream_acts n done) (receiving_of n done) s.endpoint.table act rule own)
 
 -- a frame stands behind what was sent, and is the start-up frame or that of a part, as large as was set
 -- how large the frame of a part is
@@ -514,8 +509,8 @@ shown_sized o c done queue table (Reject private refused) rule own = tt
 shown_sized o c done queue table (Work step) rule own = tt
 shown_sized o c done queue table Break rule own = tt
 
-pub sized_all : (trace : List (Entry Octets)) → Follows start trace → Sized trace
-sized_all trace follows = each_stream SizedStream trace follows (λ done s n c act k peer rule own. shown_sized (opening_of n done) c (stream_acts n done) (receiving_of n done) s.endpoint.table act rule own)
+pub sized_all : (trace : List (Entry Octets)) → Run trace → Sized trace
+sized_all trace run = each_stream SizedStream trace run (λ done s n c act k peer rule own. shown_sized (opening_of n done) c (stream_acts n done) (receiving_of n done) s.endpoint.table act rule own)
 
 may_send : (o : Opening) (c : Connected) (done : List (StreamAct Octets)) (queue : Receiving) → MaySpeak c.stream → Own o c (tale_with o done queue) → MaySend (has_ended_by done) (story_with o done queue)
 may_send o c done queue m own =
@@ -563,8 +558,8 @@ shown_allowed o c done queue table (Reject private refused) rule own = tt
 shown_allowed o c done queue table (Work step) rule own = tt
 shown_allowed o c done queue table Break rule own = tt
 
-pub speaks_all : (trace : List (Entry Octets)) → Follows start trace → Speaks trace
-speaks_all trace follows = each_stream SpeaksStream trace follows (λ done s n c act k peer rule own. shown_allowed (opening_of n done) c (stream_acts n done) (receiving_of n done) s.endpoint.table act rule own)
+pub speaks_all : (trace : List (Entry Octets)) → Run trace → Speaks trace
+speaks_all trace run = each_stream SpeaksStream trace run (λ done s n c act k peer rule own. shown_allowed (opening_of n done) c (stream_acts n done) (receiving_of n done) s.endpoint.table act rule own)
 
 -- ---- the turns of frames
 
@@ -587,8 +582,8 @@ turns_stream done n s c (Accept private answer) k peer rule own = tt
 turns_stream done n s c (Reject private refused) k peer rule own = tt
 turns_stream done n s c Break k peer rule own = tt
 
-pub turns_all : (trace : List (Entry Octets)) → Follows start trace → Turns trace
-turns_all trace follows = each_stream TurnsStream trace follows turns_at
+pub turns_all : (trace : List (Entry Octets)) → Run trace → Turns trace
+turns_all trace run = each_stream TurnsStream trace run turns_at
   where
     turns_at : (done : List (Act Octets)) (s : EndState) (n : ℕ) (c : Connected) (act : StreamAct Octets) → EndKept s done → peer_of c.stream ≡ peer_at n done → StreamRule s.endpoint.table c.stream act
         → Own (opening_of n done) c (tale n done) → TurnsStream done n act
@@ -638,15 +633,15 @@ fetch_shown done n s c (Reject private refused) k peer rule own = tt
 fetch_shown done n s c (Work step) k peer rule own = tt
 fetch_shown done n s c Break k peer rule own = tt
 
-pub fetched_all : (trace : List (Entry Octets)) → Follows start trace → AtEach (OnStream FetchStream) trace
-fetched_all trace follows = each_stream FetchStream trace follows (λ done s n c act k peer rule own.
+pub fetched_all : (trace : List (Entry Octets)) → Run trace → AtEach (OnStream FetchStream) trace
+fetched_all trace run = each_stream FetchStream trace run (λ done s n c act k peer rule own.
     subst (λ z. OnSome (FetchShown (story_of n done) z (size_set (stream_acts n done))) (deed act).shown) (same_standing done n s c k peer own) (fetch_shown done n s c act k peer rule own))
 
 -- ---- Reads that are outstanding
 
-pub few_reads : (trace : List (Entry Octets)) → Follows start trace → FewReads trace
-few_reads trace follows past future is x n =
-    let own = ((seen_at past future trace follows is).pairs x n).own.own in
+pub few_reads : (trace : List (Entry Octets)) → Run trace → FewReads trace
+few_reads trace run past future is x n =
+    let own = ((run.seen past future is).pairs x n).own.own in
     omega (arith, own.emits.asks.few, ap length own.emits.asks.reads, ap most_reads_in own.track.begins.start)
 
 -- ---- finished messages
@@ -680,8 +675,8 @@ finished_stream done n s c (Mulpdu size refused) rule own = tt
 finished_stream done n s c (Accept private answer) rule own = tt
 finished_stream done n s c (Reject private refused) rule own = tt
 
-pub finished_all : (trace : List (Entry Octets)) → Follows start trace → Finished trace
-finished_all trace follows = each_stream FinishedStream trace follows (λ done s n c act k peer rule own. finished_stream done n s c act rule own)
+pub finished_all : (trace : List (Entry Octets)) → Run trace → Finished trace
+finished_all trace run = each_stream FinishedStream trace run (λ done s n c act k peer rule own. finished_stream done n s c act rule own)
 
 -- ---- rest
 
@@ -715,24 +710,24 @@ idle_stream s c done n (Raw number octets delivery) rule o = tt
 idle_stream s c done n (First number refused) rule o = tt
 idle_stream s c done n (Mulpdu size refused) rule o = tt
 
-pub idle_at_rest : (trace : List (Entry Octets)) → Follows start trace → IdleOnlyAtRest trace
-idle_at_rest trace follows = each_stream IdleStream trace follows (λ done s n c act k peer rule own. idle_stream s c done n act rule own)
+pub idle_at_rest : (trace : List (Entry Octets)) → Run trace → IdleOnlyAtRest trace
+idle_at_rest trace run = each_stream IdleStream trace run (λ done s n c act k peer rule own. idle_stream s c done n act rule own)
 
 -- ---- before their turn
 
-pub early_all : (trace : List (Entry Octets)) → Follows start trace → JudgesEarly trace
-early_all trace follows = judges_early trace (idle_at_rest trace follows) (turns_all trace follows)
+pub early_all : (trace : List (Entry Octets)) → Run trace → JudgesEarly trace
+early_all trace run = judges_early trace (idle_at_rest trace run) (turns_all trace run)
 
-pub second_all : (trace : List (Entry Octets)) → Follows start trace → ChecksOnce trace
-second_all trace follows = checks_once trace (turns_all trace follows)
+pub second_all : (trace : List (Entry Octets)) → Run trace → ChecksOnce trace
+second_all trace run = checks_once trace (turns_all trace run)
 
-spans_once : (trace : List (Entry Octets)) → Follows start trace → (past future : List (Entry Octets)) → trace ≡ past ++ future → (x : End) (n : ℕ) → AreOnce (spans_placed (opening_of n (acts x past)) (stream_acts n (acts x past)))
-spans_once trace follows past future is x n =
-    let h = ((seen_at past future trace follows is).pairs x n).own in
+spans_once : (trace : List (Entry Octets)) → Run trace → (past future : List (Entry Octets)) → trace ≡ past ++ future → (x : End) (n : ℕ) → AreOnce (spans_placed (opening_of n (acts x past)) (stream_acts n (acts x past)))
+spans_once trace run past future is x n =
+    let h = ((run.seen past future is).pairs x n).own in
     are_once h.stream (spans_placed (opening_of n (acts x past)) (stream_acts n (acts x past))) h.own.once
 
-pub once_all : (trace : List (Entry Octets)) → Follows start trace → PlacesOnce trace
-once_all trace follows = record { placements = placements trace (turns_all trace follows); once = spans_once trace follows }
+pub once_all : (trace : List (Entry Octets)) → Run trace → PlacesOnce trace
+once_all trace run = record { placements = placements trace (turns_all trace run); once = spans_once trace run }
 
 -- ---- the end
 
@@ -829,13 +824,13 @@ ends_stream done n s c (Accept private answer) rule own = (tt, tt)
 ends_stream done n s c (Reject private refused) rule own = (tt, tt)
 ends_stream done n s c Break rule own = (tt, tt)
 
-pub ends_all : (trace : List (Entry Octets)) → Follows start trace → Ends trace
-ends_all trace follows = each_stream EndsStream trace follows (λ done s n c act k peer rule own. ends_stream done n s c act rule own)
+pub ends_all : (trace : List (Entry Octets)) → Run trace → Ends trace
+ends_all trace run = each_stream EndsStream trace run (λ done s n c act k peer rule own. ends_stream done n s c act rule own)
 
 -- the story of a stream has ended where its acts say so
-pub ended_told : (trace : List (Entry Octets)) → Follows start trace → (x : End) (n : ℕ) → has_ended (story_of n (acts x trace)).ending ≡ has_ended_by (stream_acts n (acts x trace))
-ended_told trace follows x n =
-    let own = ((seen_at trace [] trace follows (sym (append-nil trace))).pairs x n).own.own in
+pub ended_told : (trace : List (Entry Octets)) → Run trace → (x : End) (n : ℕ) → has_ended (story_of n (acts x trace)).ending ≡ has_ended_by (stream_acts n (acts x trace))
+ended_told trace run x n =
+    let own = ((run.seen trace [] (sym (append-nil trace))).pairs x n).own.own in
     ap has_ended own.emits.parts.ending ∙ own.ended
 
 -- ---- calls
@@ -891,9 +886,30 @@ end_answered done s (Stream n act) k pools rule = tt
 
 pub shows_memory : (trace : List (Entry Octets)) → Follows start trace → ShowsMemory trace
 shows_memory trace follows past e future is =
-    let m = moment past e future trace follows is in
     let w : State = state_after start past in
-    end_answered (acts e.end past) (end_of e.end w) e.act (m.0.ends e.end) (m.0.pools e.end) m.1.0
+    let m : BothSeen past w = seen_at past (e ∷ future) trace follows is in
+    let rule : Rule (end_of e.end w) (end_of (other e.end) w) e.act = (follows_split past (e ∷ future) start (subst (Follows start) is follows)).1.0 in
+    end_answered (acts e.end past) (end_of e.end w) e.act (m.ends e.end) (m.pools e.end) rule.0
+
+-- those on regions and pools, whatever numbers the streams have
+plain_answered : (done : List (Act Octets)) (s peer : EndState) (act : Act Octets) → EndKept s done → PoolsSeen s done → PlainRule s peer act → PlainAnswered done act
+plain_answered done s peer (Domain pd refused) k pools rule = end_answered done s (Domain pd refused) k pools rule.0
+plain_answered done s peer (Register pd base rights octets answer) k pools rule = end_answered done s (Register pd base rights octets answer) k pools rule.0
+plain_answered done s peer (Deregister stag answer) k pools rule = end_answered done s (Deregister stag answer) k pools rule.0
+plain_answered done s peer (Invalidate stag refused) k pools rule = end_answered done s (Invalidate stag refused) k pools rule.0
+plain_answered done s peer (Store stag to octets refused) k pools rule = end_answered done s (Store stag to octets refused) k pools rule.0
+plain_answered done s peer (Open n pd role options private refused) k pools rule = tt
+plain_answered done s peer (Share pd refused) k pools rule = end_answered done s (Share pd refused) k pools rule.0
+plain_answered done s peer (Pool pd len refused) k pools rule = end_answered done s (Pool pd len refused) k pools rule.0
+plain_answered done s peer (Unpool pd answer) k pools rule = end_answered done s (Unpool pd answer) k pools rule.0
+plain_answered done s peer (OpenShared n pd role options private refused) k pools rule = tt
+plain_answered done s peer (Stream n act) k pools rule = tt
+
+pub shows_regions : (trace : List (Entry Octets)) → Run trace → ShowsRegions trace
+shows_regions trace run past e future is =
+    let w : State = run.left past in
+    let m : BothSeen past w = run.seen past (e ∷ future) is in
+    plain_answered (acts e.end past) (end_of e.end w) (end_of (other e.end) w) e.act (m.ends e.end) (m.pools e.end) (run.ruled past e future is)
 
 -- the buffers and the messages that count for a refusal
 recv_refused : (o : Opening) (c : Connected) (done : List (StreamAct Octets)) (queue : Receiving) → Own o c (tale_with o done queue) → recv_refusal c.stream ≡ recv_refusal_by (story_with o done queue) done
@@ -957,8 +973,8 @@ stream_answered o c done queue table (Raw number octets delivery) rule own = tt
 stream_answered o c done queue table (Work step) rule own = tt
 stream_answered o c done queue table Break rule own = tt
 
-pub answered_all : (trace : List (Entry Octets)) → Follows start trace → Answered trace
-answered_all trace follows = each_stream AnsweredStream trace follows (λ done s n c act k peer rule own. stream_answered (opening_of n done) c (stream_acts n done) (receiving_of n done) s.endpoint.table act rule own)
+pub answered_all : (trace : List (Entry Octets)) → Run trace → Answered trace
+answered_all trace run = each_stream AnsweredStream trace run (λ done s n c act k peer rule own. stream_answered (opening_of n done) c (stream_acts n done) (receiving_of n done) s.endpoint.table act rule own)
 
 -- ---- octets that come
 
@@ -987,8 +1003,8 @@ octets_kept o c done queue table (Emit shown) rule own = tt
 octets_kept o c done queue table (Work step) rule own = tt
 octets_kept o c done queue table Break rule own = tt
 
-pub keeps_octets : (trace : List (Entry Octets)) → Follows start trace → KeepsOctets trace
-keeps_octets trace follows = each_stream KeptStream trace follows (λ done s n c act k peer rule own. octets_kept (opening_of n done) c (stream_acts n done) (receiving_of n done) s.endpoint.table act rule own)
+pub keeps_octets : (trace : List (Entry Octets)) → Run trace → KeepsOctets trace
+keeps_octets trace run = each_stream KeptStream trace run (λ done s n c act k peer rule own. octets_kept (opening_of n done) c (stream_acts n done) (receiving_of n done) s.endpoint.table act rule own)
 
 -- octets that are delivered are the other end's, and have the numbers of their places
 carried : (o : Opening) (c : Connected) (done : List (StreamAct Octets)) (queue : Receiving) (table : Table) (wire : Octets) (act : StreamAct Octets) → StreamRule table c.stream act → WireRule wire act → Own o c (tale_with o done queue)
@@ -1010,7 +1026,7 @@ carried o c done queue table wire Break rule there own = tt
 wire_of : (peer : EndState) (others : List (Act Octets)) (n : ℕ) (act : StreamAct Octets) → wire_at peer n ≡ sent (stream_acts n others) → PeerRule peer (Stream n act) → WireRule (sent (stream_acts n others)) act
 wire_of peer others n act wire rule = subst (λ z. WireRule z act) wire rule.1
 
-carries : (P : List (Act Octets) → ℕ → StreamAct Octets → Type 0) (done : List (Act Octets)) (s peer : EndState) (act : Act Octets) → Rule s peer act
+carries : (P : List (Act Octets) → ℕ → StreamAct Octets → Type 0) (done : List (Act Octets)) (s peer : EndState) (act : Act Octets) → PlainRule s peer act
     → ((n : ℕ) (a : StreamAct Octets) → has_stream s.endpoint n ≡ true → StreamRule s.endpoint.table (connected_at s n).stream a → PeerRule peer (Stream n a) → P done n a) → OnStream P done act
 carries P done s peer (Stream n act) rule h = h n act rule.0.0 (lent_rule s.endpoint n act rule.0.1) rule.1
 carries P done s peer (Domain pd refused) rule h = tt
@@ -1024,22 +1040,23 @@ carries P done s peer (Pool pd len refused) rule h = tt
 carries P done s peer (Unpool pd answer) rule h = tt
 carries P done s peer (OpenShared n pd role options private refused) rule h = tt
 
-pub carries_octets : (trace : List (Entry Octets)) → Follows start trace → CarriesOctets trace
-carries_octets trace follows past e future is =
-    let m = moment past e future trace follows is in
-    let w : State = state_after start past in
+pub carries_octets : (trace : List (Entry Octets)) → Run trace → CarriesOctets trace
+carries_octets trace run past e future is =
+    let w : State = run.left past in
+    let m : BothSeen past w = run.seen past (e ∷ future) is in
+    let rule : PlainRuleIn w e = run.ruled past e future is in
     let s : EndState = end_of e.end w in
     let done : List (Act Octets) = acts e.end past in
     let others : List (Act Octets) = acts (other e.end) past in
-    carries (CarriedStream others) done s (end_of (other e.end) w) e.act m.1 (λ n act opened rule there.
-    let h = (m.0.pairs e.end n).own in
+    carries (CarriedStream others) done s (end_of (other e.end) w) e.act rule (λ n act opened rule there.
+    let h = (m.pairs e.end n).own in
     let mine = left_acts s.endpoint.table (connected_at s n).stream h.stream (tale n done) act h.is_left h.own.track rule in
-    carried (opening_of n done) (held h) (stream_acts n done) (receiving_of n done) s.endpoint.table (sent (stream_acts n others)) act mine.0 (wire_of (end_of (other e.end) w) others n act (m.0.pairs e.end n).own_peer.own.wire there) h.own)
+    carried (opening_of n done) (held h) (stream_acts n done) (receiving_of n done) s.endpoint.table (sent (stream_acts n others)) act mine.0 (wire_of (end_of (other e.end) w) others n act (m.pairs e.end n).own_peer.own.wire there) h.own)
 
 -- ---- streams that are there
 
 -- the stream of an act is there, at the other end too where octets of it are delivered
-stream_opened : (s peer : EndState) (own others : List (Act Octets)) (act : Act Octets) → EndKept s own → EndKept peer others → Rule s peer act → OnStream (OpenedStream others) own act
+stream_opened : (s peer : EndState) (own others : List (Act Octets)) (act : Act Octets) → EndKept s own → EndKept peer others → PlainRule s peer act → OnStream (OpenedStream others) own act
 stream_opened s peer own others (Stream n act) k j rule = (sym (k.opened n) ∙ rule.0.0, go act rule.1.0)
   where
     go : (act : StreamAct Octets) → (needs_peer (stream_call_of act) ≡ true → has_stream peer.endpoint n ≡ true) → OnSome (λ c. OnSome (λ from. was_opened (openings n others) ≡ true) c.from) (deed act).coming
@@ -1065,11 +1082,12 @@ stream_opened s peer own others (Pool pd len refused) k j rule = tt
 stream_opened s peer own others (Unpool pd answer) k j rule = tt
 stream_opened s peer own others (OpenShared n pd role options private refused) k j rule = tt
 
-pub opens_first : (trace : List (Entry Octets)) → Follows start trace → OpensFirst trace
-opens_first trace follows past e future is =
-    let m = moment past e future trace follows is in
-    let w : State = state_after start past in
-    stream_opened (end_of e.end w) (end_of (other e.end) w) (acts e.end past) (acts (other e.end) past) e.act (m.0.ends e.end) (m.0.ends (other e.end)) m.1
+pub opens_first : (trace : List (Entry Octets)) → Run trace → OpensFirst trace
+opens_first trace run past e future is =
+    let w : State = run.left past in
+    let m : BothSeen past w = run.seen past (e ∷ future) is in
+    let rule : PlainRuleIn w e = run.ruled past e future is in
+    stream_opened (end_of e.end w) (end_of (other e.end) w) (acts e.end past) (acts (other e.end) past) e.act (m.ends e.end) (m.ends (other e.end)) rule
 
 -- ---- events that cannot happen
 

@@ -45,6 +45,13 @@ pub mod Ends
 pub mod Pools
 pub mod Nearby
 pub mod Whole
+pub mod Runs
+pub mod Given
+pub mod Unlimited
+pub mod Renumbered
+pub mod Serving
+pub mod Gone
+pub mod Closing
 pub mod Apart
 pub mod RefusedApart
 pub mod EarlyLaws
@@ -63,3 +70,4 @@ pub mod RefusedHeld
 pub mod RefusedPools
 pub mod RefusedEnhanced
 pub mod RefusedRtr
+pub mod RefusedServers

@@ -1,4 +1,4 @@
--- Work comes to rest, of whatever follows the rules: no more lies ahead than a window holds.
+-- Work comes to rest, of every run: no more lies ahead than a window holds.
 use Rattle.std.proofs.Common.{◌≡◌, ℕ, ◌+◌, ◌-◌, ◌≤◌, List, [], ◌++◌, length, Bool, true, false, cond, refl, sym, ap, ◌∙◌, arith}
 use Rattle.std.proofs.lemmas.Bool.{false≢true}
 use Rattle.std.proofs.lemmas.List.{length-drop}
@@ -9,11 +9,11 @@ use Rattle.iw_events.specs.declared.act.Entry.{Entry}
 use Rattle.iw_laws.specs.Words.{Octets, acts, stream_acts}
 use Rattle.iw_laws.specs.Turns.{in_order_point}
 use Rattle.iw_laws.specs.Busy.{places_ahead, waits, messages_left, most_steps, steps_left, WorkComesToRest}
-use Rattle.iw_laws.specs.Rules.{start, Follows, state_after}
 use Rattle.iw_laws.proofs.Tales.{Tale}
 use Rattle.iw_laws.proofs.Tracks.{Track, start_octets, point_is}
 use Rattle.iw_laws.proofs.Pools.{held, tale_seen as tale}
-use Rattle.iw_laws.proofs.Whole.{Seen as BothSeen, seen_at}
+use Rattle.iw_laws.proofs.Whole.{Seen as BothSeen}
+use Rattle.iw_laws.proofs.Runs.{Run}
 use Rattle.iw_laws.proofs.Busy.{uses}
 use Rattle.iw_laws.proofs.Laws.{turns_all, ends_all, finished_all}
 
@@ -57,11 +57,11 @@ front_few false false = omega arith
 steps_few : (s : StreamState) (t : Tale) (messages : ℕ) → Track s t → steps_left t.story messages ≤ most_steps + messages
 steps_few s t messages k = omega (arith, places_few s t k, front_few (awaits_frame t.story.start) (waits t.story))
 
-pub work_rests : (trace : List (Entry Octets)) → Follows start trace → WorkComesToRest trace
-work_rests trace follows past others future is x n opened running busy =
-    let k : BothSeen past (state_after start past) = seen_at past (others ++ future) trace follows is in
+pub work_rests : (trace : List (Entry Octets)) → Run trace → WorkComesToRest trace
+work_rests trace run past others future is x n opened running busy =
+    let k : BothSeen past (run.left past) = run.seen past (others ++ future) is in
     let p = k.pairs x n in
     record {
-      used = uses trace (turns_all trace follows) (ends_all trace follows) (finished_all trace follows) n x past others future is opened running busy;
+      used = uses trace (turns_all trace run) (ends_all trace run) (finished_all trace run) n x past others future is opened running busy;
       most = steps_few (held p.own).stream (tale n (acts x past)) (messages_left (stream_acts n (acts x past))) p.own.own.track;
     }

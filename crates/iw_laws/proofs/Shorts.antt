@@ -10,14 +10,24 @@ use Rattle.iw_events.specs.declared.act.StreamAct.{StreamAct}
 use Rattle.iw_events.specs.declared.act.StreamAct.TheVariants.{Recv, Post, Emit, First, Deliver, Raw, Mulpdu, Accept, Reject, Work, Break}
 use Rattle.iw_events.specs.declared.act.Entry.{Entry}
 use Rattle.iw_laws.specs.Words.{Octets, other, acts, stream_acts, stream_acts_by, opening_of, sent, sent_by}
-use Rattle.iw_laws.specs.Rules.{EndState, State, end_of, start, Rule, StreamRule, stream_for, after_entry, state_after, Follows}
+use Rattle.std.specs.Prelude.{unwrap_or, Option, Ok, Err}
+use Rattle.iw_endpoint.specs.Endpoint.{stream_of, stream_at, unopened}
+use Rattle.iw_events.specs.declared.server.ServerAct.{ServerAct}
+use Rattle.iw_events.specs.declared.server.ServerAct.TheVariants as servers
+use Rattle.iw_events.specs.declared.server.ServerEntry.{ServerEntry}
+use Rattle.iw_laws.specs.Servers.{Connections, AreApart, told, told_by, plain_told, at_end, server_state_after, ServerFollows}
+use Rattle.iw_laws.proofs.Runs.{PlainRule, plain_rule}
+use Rattle.iw_laws.proofs.Given.{FollowsWide, left_entry, left_all, wide_more, wide_plain, wide_onward}
+use Rattle.iw_laws.proofs.Renumbered.{under}
+use Rattle.iw_laws.proofs.Serving.{Alike, asked_for, many_asked, served}
+use Rattle.iw_laws.specs.Rules.{EndState, State, end_of, start, StreamRule, stream_for, after_entry, state_after, Follows}
 use Rattle.iw_laws.proofs.States.{connected_at}
 use Rattle.iw_laws.proofs.Pools.{Holds, held, tale}
-use Rattle.iw_laws.specs.Bounds.{IsShortEnd, IsShortState}
+use Rattle.iw_laws.specs.Bounds.{IsShort, IsShortEnd, IsShortState}
 use Rattle.iw_laws.proofs.Tales.{stream_acts-push, acts_mine, acts_other}
 use Rattle.iw_stream.specs.Stream.{StreamState}
 use Rattle.iw_laws.proofs.Releases.{left_acts, left_apart, left_floor}
-use Rattle.iw_laws.proofs.Whole.{Keeps, acts_next, sent_next, emits_few, one_more, unsaid, keeps_after, both, acts_none}
+use Rattle.iw_laws.proofs.Whole.{Keeps, acts_next, sent_next, emits_few, one_more, unsaid, unsaid_with, start_with, keeps_after, both, acts_none}
 
 -- the octets emitted on a stream
 abbrev sent_on : ℕ → List (Act Octets) → ℕ
@@ -46,7 +56,7 @@ few_sent s done m (Reject private refused) h rule = omega arith
 few_sent s done m (Work step) h rule = omega arith
 few_sent s done m Break h rule = omega arith
 
-one_frame : (s peer : EndState) (done : List (Act Octets)) (act : Act Octets) (n : ℕ) → ((n : ℕ) → Holds (opening_of n done) (connected_at s n) (tale n done)) → Rule s peer act
+one_frame : (s peer : EndState) (done : List (Act Octets)) (act : Act Octets) (n : ℕ) → ((n : ℕ) → Holds (opening_of n done) (connected_at s n) (tale n done)) → PlainRule s peer act
     → sent_on n (done ++ act ∷ []) ≤ sent_on n done + 2 ^ 17
 one_frame s peer done (Domain pd None) n p rule = same_sent n done (Domain pd None) refl
 one_frame s peer done (Domain pd (Some refusal)) n p rule = same_sent n done (Domain pd (Some refusal)) refl
@@ -123,7 +133,7 @@ last_few false = omega arith
 abbrev Few : List (Entry Octets) → Type 0
 Few trace = (x : End) (n : ℕ) → sent_on n (acts x trace) ≤ 2 ^ 17 * length trace
 
-few_step : (trace : List (Entry Octets)) (w : State) (e : Entry Octets) → Keeps trace w → Few trace → Rule (end_of e.end w) (end_of (other e.end) w) e.act → Few (trace ++ e ∷ [])
+few_step : (trace : List (Entry Octets)) (w : State) (e : Entry Octets) → Keeps trace w → Few trace → PlainRule (end_of e.end w) (end_of (other e.end) w) e.act → Few (trace ++ e ∷ [])
 few_step trace w e k few rule =
     let x : End = e.end in
     let y : End = other e.end in
@@ -145,7 +155,7 @@ few_onward : (past rest : List (Entry Octets)) (w : State) → Keeps past w → 
 few_onward past [] w k few follows = subst Few (sym (append-nil past)) few
 few_onward past (e ∷ rest) w k few follows =
     subst Few (append_assoc past (e ∷ []) rest)
-    (few_onward (past ++ e ∷ []) rest (after_entry w e) (one_more past w e k follows.0) (few_step past w e k few follows.0) follows.1)
+    (few_onward (past ++ e ∷ []) rest (after_entry w e) (one_more past w e k follows.0) (few_step past w e k few (plain_rule (end_of e.end w) (end_of (other e.end) w) e.act follows.0)) follows.1)
 
 few_none : Few []
 unfolding acts stream_acts sent
@@ -154,10 +164,17 @@ few_none x n = omega arith
 few_all : (trace : List (Entry Octets)) → Follows start trace → Few trace
 few_all trace follows = few_onward [] trace start unsaid few_none follows
 
+-- the same where streams are opened under numbers that an end is given
+few_wide : (past rest : List (Entry Octets)) (w : State) → Keeps past w → Few past → FollowsWide w rest → Few (past ++ rest)
+few_wide past [] w k few follows = subst Few (sym (append-nil past)) few
+few_wide past (e ∷ rest) w k few follows =
+    subst Few (append_assoc past (e ∷ []) rest)
+    (few_wide (past ++ e ∷ []) rest (left_entry w e) (wide_more past w e k follows.0) (few_step past w e k few (wide_plain (end_of e.end w) (end_of (other e.end) w) e.act follows.0)) follows.1)
+
 -- so, in a trace that is not too long, no stream has come far
 short_end : (trace : List (Entry Octets)) (w : State) → Keeps trace w → Few trace → length trace < 2 ^ 45 → (x : End) → IsShortEnd (end_of x w)
 short_end trace w k few bound x = record {
-  numbers = (k.ends x).numbers;
+  laid = (k.ends x).wires;
   streams = λ n.
       let p = k.pairs x n in
       let mine : sent_on n (acts x trace) ≤ 2 ^ 17 * length trace = few x n in
@@ -173,3 +190,60 @@ short_end trace w k few bound x = record {
 
 pub short_state : (trace : List (Entry Octets)) → Follows start trace → length trace < 2 ^ 45 → IsShortState (state_after start trace)
 short_state trace follows bound x = short_end trace (state_after start trace) (keeps_after trace follows) (few_all trace follows) bound x
+
+-- ---- of servers
+
+-- what a server's run tells has no more entries than the run
+told_few : (name : Connections) (trace : List (ServerEntry Octets)) → length (told name trace) ≤ length trace
+told_few name [] = omega arith
+told_few name (e ∷ es) = omega (arith, told_few name es, length-append (at_end e.end (told_by (name e.end) e.act)) (told name es), one (name e.end) e.end e.act)
+  where
+    plain : (name : ℕ → ℕ) (x : End) (act : Act Octets) → length (at_end x (plain_told name act)) ≤ 1
+    plain name x (Open n pd role options private None) = omega arith
+    plain name x (Open n pd role options private (Some refusal)) = omega arith
+    plain name x (OpenShared n pd role options private None) = omega arith
+    plain name x (OpenShared n pd role options private (Some refusal)) = omega arith
+    plain name x (Stream n act) = omega arith
+    plain name x (Domain pd refused) = omega arith
+    plain name x (Register pd base rights octets answer) = omega arith
+    plain name x (Deregister stag answer) = omega arith
+    plain name x (Invalidate stag refused) = omega arith
+    plain name x (Store stag to octets refused) = omega arith
+    plain name x (Share pd refused) = omega arith
+    plain name x (Pool pd len refused) = omega arith
+    plain name x (Unpool pd answer) = omega arith
+
+    one : (name : ℕ → ℕ) (x : End) (act : ServerAct Octets) → length (at_end x (told_by name act)) ≤ 1
+    one name x (servers.Plain act) = plain name x act
+    one name x (servers.Stream n act) = omega arith
+    one name x (servers.OpenNext pd role options private (Ok n)) = omega arith
+    one name x (servers.OpenNext pd role options private (Err refusal)) = omega arith
+    one name x (servers.OpenSharedNext pd role options private (Ok n)) = omega arith
+    one name x (servers.OpenSharedNext pd role options private (Err refusal)) = omega arith
+    one name x (servers.Read n from number octets delivery) = omega arith
+    one name x (servers.ReadRaw n number octets delivery) = omega arith
+    one name x (servers.Close n refused) = omega arith
+
+short_alike : (name : ℕ → ℕ) (size : ℕ) (s g : EndState) → Alike name size s g → IsShortEnd g → IsShortEnd s
+short_alike name size s g k short = record {
+  laid = k.laid;
+  streams = λ n. go n (stream_of s.endpoint n) refl;
+  wires = λ n. subst (λ z. length z ≤ 2 ^ 62) (k.wires n) (short.wires (name n));
+}
+  where
+    go : (n : ℕ) (o : Option StreamState) → stream_of s.endpoint n ≡ o → IsShort (stream_at s.endpoint n)
+    go n None is = subst (λ o. IsShort (unwrap_or o unopened)) (sym is) (record { sent = omega arith; point = omega arith })
+    go n (Some c) is =
+        subst (λ o. IsShort (unwrap_or o unopened)) (sym is)
+        (let h : IsShort (under (Some (name n)) c) = subst (λ o. IsShort (unwrap_or o unopened)) (k.streams n c is) (short.streams (name n)) in record { sent = h.sent; point = h.point })
+
+-- in a run that is not too long, no stream of a server has come far
+pub short_server : (name : Connections) (trace : List (ServerEntry Octets)) → AreApart name → ServerFollows name start trace → length trace < 2 ^ 45 → IsShortState (server_state_after start trace)
+short_server name trace apart follows bound x =
+    let size : ℕ = asked_for name trace in
+    let walked = served name trace apart follows in
+    let first : Keeps [] (start_with size) = unsaid_with size (many_asked name trace) in
+    let w : State = left_all (start_with size) (told name trace) in
+    let k : Keeps (told name trace) w = wide_onward [] (told name trace) (start_with size) first walked.0 in
+    let few : Few (told name trace) = few_wide [] (told name trace) (start_with size) first few_none walked.0 in
+    short_alike (name x) size (end_of x (server_state_after start trace)) (end_of x w) (walked.1 x) (short_end (told name trace) w k few (omega (arith, bound, told_few name trace)) x)

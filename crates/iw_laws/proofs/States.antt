@@ -202,7 +202,7 @@ refused_there : {R : Type 0} (o : Option StreamState) (f : StreamState → Optio
 refused_there None f h = absurd (false≢true h)
 refused_there (Some s) f h = refl
 
-asked : {R : Type 0} (e new : EndpointState) (n : ℕ) (f : StreamState → Option R) (q : Option R) → has_stream e n ≡ true → q ≡ f (stream_at e n) → unless (refusal_at (stream_of e n) f) e new ≡ unless (option_map Refused q) e new
+pub asked : {R : Type 0} (e new : EndpointState) (n : ℕ) (f : StreamState → Option R) (q : Option R) → has_stream e n ≡ true → q ≡ f (stream_at e n) → unless (refusal_at (stream_of e n) f) e new ≡ unless (option_map Refused q) e new
 asked e new n f q there rule = ap (λ z. unless z e new) (refused_there (stream_of e n) f there ∙ ap (option_map Refused) (sym rule))
 
 pub found : (o : Option StreamState) (e new : EndpointState) → is_some o ≡ true → if_there o e new ≡ new

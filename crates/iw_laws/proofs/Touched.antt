@@ -33,7 +33,7 @@ use Rattle.iw_events.specs.declared.act.Seen.TheVariants as seen
 use Rattle.iw_events.specs.declared.act.Entry.{Entry}
 use Rattle.iw_laws.specs.Words.{Octets, Placing, Sent, acts, acts_if, deed, of_stream, stream_acts, stream_acts_by, placings, placed_by, listed, as_write, written, written_by, sunk, sunk_by, table_after, table_by, peer_at, OnSome, OnStream}
 use Rattle.iw_laws.specs.Safe.{Within, WithinStream}
-use Rattle.iw_laws.specs.Calls.{EndAnswered, ShowsMemory}
+use Rattle.iw_laws.specs.Plain.{PlainAnswered, ShowsRegions}
 use Rattle.iw_laws.specs.Holds.{Place, cell_of, Holds, lies_over, touches, touched_after, last_touch, IsUntouched, AgreeOn}
 use Rattle.iw_laws.proofs.Tales.{fold-push, table-push, stream_acts-push, acts-push}
 use Rattle.iw_laws.proofs.Joins.{written-push, sunk-push}
@@ -375,7 +375,7 @@ first p n right = record {
 
 -- ---- so at every moment of a trace
 
-fits_act : (before : List (Act Octets)) (act : Act Octets) → OnStream WithinStream before act → EndAnswered before act → FitsAct (table_after before) act
+fits_act : (before : List (Act Octets)) (act : Act Octets) → OnStream WithinStream before act → PlainAnswered before act → FitsAct (table_after before) act
 fits_act before (Stream n act) within answered = go (deed act).placing within.0
   where
     go : (o : Option Placing) → OnSome (λ q. AllowsFor (table_after before) (peer_at n before) q.stag q.to (length q.octets) q.right) o → OnSome (IsPlaceable (table_after before)) o
@@ -393,7 +393,7 @@ fits_act before (Pool pd len refused) within answered = tt
 fits_act before (Unpool pd answer) within answered = tt
 fits_act before (OpenShared number pd role options private refused) within answered = tt
 
-module _ (trace : List (Entry Octets)) (within : Within trace) (answered : ShowsMemory trace) (y : End) (p : Place) (n : ℕ) (right : Right) (unread : right ≡ rights.Read → ⊥) where
+module _ (trace : List (Entry Octets)) (within : Within trace) (answered : ShowsRegions trace) (y : End) (p : Place) (n : ℕ) (right : Right) (unread : right ≡ rights.Read → ⊥) where
   one : (pre : List (Entry Octets)) (e : Entry Octets) (post : List (Entry Octets)) → trace ≡ pre ++ e ∷ post → IsSeenAt p n right (acts y pre) → IsSeenAt p n right (acts y (pre ++ e ∷ []))
   one pre e post is k = subst (IsSeenAt p n right) (sym (acts-push y pre e)) (by y e.end k (fits_act (acts e.end pre) e.act (within pre e post is) (answered pre e post is)))
     where

@@ -2,7 +2,7 @@
 use Rattle.iw_laws.proofs.Nearby.{lands_near}
 use Rattle.std.proofs.Common.{◌≡◌, ℕ, zero, suc, ◌+◌, ◌^◌, ◌<◌, ◌≤◌, List, [], ◌∷◌, ◌++◌, length, drop, replicate, Option, Some, None, Bool, true, false, cond, eqb, refl, sym, ap, ◌∙◌, subst, arith, append_assoc, length-append, length-take, eqb-true, ◌-◌, Ok, Err, inl, inr, ◌⊎◌}
 use Rattle.std.specs.Prelude.{map, is_some, slice_set, slice_index_or, unwrap_or, not, ◌||◌, Bool, ◌%◌, ◌^◌}
-use Rattle.std.proofs.lemmas.List.{append-nil}
+use Rattle.std.proofs.lemmas.List.{append-nil, length-replicate}
 use Rattle.std.proofs.lemmas.Bool.{eq-eqb, false≢true, true≢false}
 use Rattle.iw_ranges.specs.Nearest.{place_near, before_start}
 use Rattle.iw_octets.specs.Segment.{segment_octets}
@@ -34,6 +34,7 @@ use Rattle.iw_reads.specs.Response.{response_head}
 use Rattle.iw_laws.specs.Merged.{response_segment}
 use Rattle.iw_laws.proofs.Merges.{merges_none}
 use Rattle.iw_queues.specs.Segments.{segment_of}
+use Rattle.iw_events.specs.declared.call.Options.{Options}
 use Rattle.iw_events.specs.declared.call.End.{End}
 use Rattle.iw_events.specs.declared.call.End.TheVariants.{A, B}
 use Rattle.iw_events.specs.declared.act.Act.{Act}
@@ -49,10 +50,10 @@ use Rattle.std.specs.Prelude.{nat_lt}
 use Rattle.iw_laws.specs.Words.{Octets, other, acts, stream_acts, stream_acts_by, Opening, config_for, no_opening, opening_in, opening_of, domain_of, openings, openings_by, posted, finished_kinds, handed_kinds, size_set, received, ended, sent, sent_by, placings, table_after, OnSome, deed}
 use Rattle.std.specs.Option.{option_map}
 use Rattle.iw_stream.specs.declared.answer.OpenRefusal.TheVariants as open_refusals
-use Rattle.iw_endpoint.specs.Endpoint.{EndpointState, Pool as PoolOf, number_refusal, open_shared_refusal_of, unshared, pool_of, stream_of, stream_at, unopened as no_stream, has_stream, no_pools, no_streams}
+use Rattle.iw_endpoint.specs.Endpoint.{EndpointState, Pool as PoolOf, number_refusal, open_shared_refusal_of, unshared, pool_of, stream_of, stream_at, unopened as no_stream, has_stream, no_pools, no_streams, fresh, open_refusal, open_shared_refusal}
 use Rattle.iw_endpoint.proofs.Parts.{fresh_domains}
-use Rattle.iw_laws.specs.Rules.{EndState, State, end_of, with_end, at_first, start, Rule, EndRule, WireRule, StreamRule, stream_for, end_after, after_entry, state_after, Follows, wire_at, no_wires}
-use Rattle.iw_laws.proofs.States.{opening_by, Connected, connected, unconnected, connected_at, connected_seen, left_at, streams_after, wire_still, wire_more}
+use Rattle.iw_laws.specs.Rules.{EndState, State, end_of, with_end, start, Rule, EndRule, WireRule, StreamRule, stream_for, end_after, after_entry, state_after, Follows, wire_at, no_wires}
+use Rattle.iw_laws.proofs.States.{opening_by, Connected, connected, unconnected, connected_at, connected_seen, left_at, streams_after, streams_left, wire_still, wire_more}
 use Rattle.iw_stream.specs.Work.{scene}
 use Rattle.iw_laws.proofs.Judged.{none_judged}
 use Rattle.iw_laws.proofs.EarlySent.{none_sent}
@@ -69,7 +70,7 @@ use Rattle.iw_laws.proofs.Releases.{IsLeft, Still, left_apart, nothing_given}
 use Rattle.iw_laws.proofs.Fills.{nothing_placed}
 use Rattle.iw_laws.proofs.Owns.{same_merges, Own, answers_part, first_fits, Emits, out_of, lives, all_spoken, word_unbroken, runs_unbroken, Unspoken, IsStartOf, past_start}
 use Rattle.iw_laws.proofs.Pools.{told_by, tale, tale_seen, Holds, PoolsSeen, HeldAt, next_held, pools_next, seen_held}
-use Rattle.iw_laws.proofs.Ends.{EndSeen, Opens, end_step, opens, opens_shared, opens_same, at_act, at_same, at_other, number_there, unopened, opening_none, opening_one}
+use Rattle.iw_laws.proofs.Ends.{EndSeen, Opens, end_step, opens, numbered_open, numbered_shared, opens_same, at_act, at_same, at_other, number_there, unopened, opening_none, opening_one}
 
 -- a stream at both ends, with what the acts say of each; if no octets strayed, what came is what the other end sent
 pub record Pair (l : Opening) (c : Connected) (t : Tale) (m : Opening) (d : Connected) (u : Tale) : Type 0 where
@@ -169,7 +170,7 @@ unfolding advanced
 nothing_moves = refl
 
 -- each opening has private data that fits
-record OpensFit (o : Opening) : Type 0 where
+pub record OpensFit (o : Opening) : Type 0 where
   pub small : length o.config.private.items ≤ 512
   pub fits : exceeds_request o.role o.config ≡ false
 
@@ -351,15 +352,19 @@ first_told o = λ i. record (tale_of o []) { story = record (story o []) { recei
 same_queue : (n : ℕ) (done : List (Act Octets)) (act : Act Octets) → stream_acts_by n act ≡ [] → (pooling (done ++ act ∷ [])).queues n ≡ (pooling done).queues n
 same_queue n done act none = ap (λ (z : Pooling). z.queues n) (pooling-push done act) ∙ queue_other (pooled done) n act none
 
--- an act that neither opens the stream nor is one of it
-same_stream : (s : EndState) (act : Act Octets) (n : ℕ) (done : List (Act Octets)) (m : Opening) (d : Connected) (u : Tale) → EndRule s.endpoint act → slice_index_or (streams_after s.endpoint act) n None ≡ slice_index_or s.endpoint.streams n None → openings_by n act ≡ []
-    → stream_acts_by n act ≡ [] → Pair (opening_of n done) (connected_at s n) (tale n done) m d u → Pair (opening_of n (done ++ act ∷ [])) (connected_at (end_after s act) n) (tale n (done ++ act ∷ [])) m d u
-same_stream s act n done m d u rule same closed none p =
+-- an act that neither opens the stream nor is one of it, and leaves this end
+same_stream : (s s' : EndState) (act : Act Octets) (n : ℕ) (done : List (Act Octets)) (m : Opening) (d : Connected) (u : Tale) → stream_of s'.endpoint n ≡ stream_of s.endpoint n → wire_at s' n ≡ wire_at s n → openings_by n act ≡ []
+    → stream_acts_by n act ≡ [] → Pair (opening_of n done) (connected_at s n) (tale n done) m d u → Pair (opening_of n (done ++ act ∷ [])) (connected_at s' n) (tale n (done ++ act ∷ [])) m d u
+same_stream s s' act n done m d u same wire closed none p =
     let same_opening : opening_of n (done ++ act ∷ []) ≡ opening_of n done = ap opening_in (opens_same n done act closed) in
     let acts_are : stream_acts n (done ++ act ∷ []) ≡ stream_acts n done = stream_acts-push n done act ∙ ap (λ z. stream_acts n done ++ z) none ∙ append-nil (stream_acts n done) in
-    let left : stream_of s.endpoint n ≡ stream_of (end_after s act).endpoint n = sym same ∙ sym (at_act s.endpoint act n rule) in
-    moved m d u (sym same_opening) (λ i. record { stream = unwrap_or (left i) no_stream; wire = sym (wire_still s act n none) i })
+    moved m d u (sym same_opening) (λ i. record { stream = unwrap_or (sym same i) no_stream; wire = sym wire i })
     (λ i. told_by (sym same_opening i).shared (sym same_opening i) (sym acts_are i) (sym (same_queue n done act none) i)) p
+
+-- one that the rules give
+stream_kept : (s : EndState) (act : Act Octets) (n : ℕ) (done : List (Act Octets)) (m : Opening) (d : Connected) (u : Tale) → EndRule s.endpoint act → slice_index_or (streams_after s.endpoint act) n None ≡ stream_of s.endpoint n → openings_by n act ≡ []
+    → stream_acts_by n act ≡ [] → Pair (opening_of n done) (connected_at s n) (tale n done) m d u → Pair (opening_of n (done ++ act ∷ [])) (connected_at (end_after s act) n) (tale n (done ++ act ∷ [])) m d u
+stream_kept s act n done m d u rule same closed none p = same_stream s (end_after s act) act n done m d u (at_act s.endpoint act n rule ∙ same) (wire_still s act n none) closed none p
 
 pub acts_none : (m n : ℕ) (act : StreamAct Octets) → eqb m n ≡ false → stream_acts_by n (Stream m act) ≡ []
 acts_none m n act e = ap (λ b. cond b (act ∷ []) []) e
@@ -378,25 +383,24 @@ nothing_sent : sent [] ≡ []
 unfolding sent
 nothing_sent = refl
 
--- a stream is opened
-opened_pair : (s : EndState) (done : List (Act Octets)) (act : Act Octets) (m n : ℕ) (o l : Opening) (d : Connected) (u : Tale) → EndSeen s done → EndRule s.endpoint act → Opens s m → OpensFit o → openings_by n act ≡ cond (eqb m n) (o ∷ []) []
-    → streams_after s.endpoint act ≡ slice_set s.endpoint.streams m (Some (connected o (Some m)).stream) → stream_acts_by n act ≡ [] → Pair (opening_of n done) (connected_at s n) (tale n done) l d u
-    → Pair (opening_of n (done ++ act ∷ [])) (connected_at (end_after s act) n) (tale n (done ++ act ∷ [])) l d u
-opened_pair s done act m n o l d u k rule new asks one left silent p = go (eqb m n) refl
+-- a stream is opened, and this end is left
+pub opened_pair : (s s' : EndState) (done : List (Act Octets)) (act : Act Octets) (m n : ℕ) (o l : Opening) (d : Connected) (u : Tale) → EndSeen s done → Opens s m → OpensFit o → openings_by n act ≡ cond (eqb m n) (o ∷ []) []
+    → s'.endpoint.streams ≡ slice_set s.endpoint.streams m (Some (connected o (Some m)).stream) → wire_at s' n ≡ wire_at s n → stream_acts_by n act ≡ [] → Pair (opening_of n done) (connected_at s n) (tale n done) l d u
+    → Pair (opening_of n (done ++ act ∷ [])) (connected_at s' n) (tale n (done ++ act ∷ [])) l d u
+opened_pair s s' done act m n o l d u k new asks one left wire silent p = go (eqb m n) refl
   where
-    go : (b : Bool) → eqb m n ≡ b → Pair (opening_of n (done ++ act ∷ [])) (connected_at (end_after s act) n) (tale n (done ++ act ∷ [])) l d u
-    go false e = same_stream s act n done l d u rule (ap (λ xs. slice_index_or xs n None) left ∙ at_other s m n (Some (connected o (Some m)).stream) e) (one ∙ opening_none (eqb m n) o e) silent p
+    go : (b : Bool) → eqb m n ≡ b → Pair (opening_of n (done ++ act ∷ [])) (connected_at s' n) (tale n (done ++ act ∷ [])) l d u
+    go false e = same_stream s s' act n done l d u (ap (λ xs. slice_index_or xs n None) left ∙ at_other s m n (Some (connected o (Some m)).stream) e) wire (one ∙ opening_none (eqb m n) o e) silent p
     go true e =
         let same : m ≡ n = eqb-true m n e in
-        let room : m < length s.endpoint.streams = omega (arith, new.number, k.numbers) in
-        let here : stream_of (end_after s act).endpoint n ≡ Some (connected o (Some m)).stream =
-        at_act s.endpoint act n rule ∙ ap (λ xs. slice_index_or xs n None) left ∙ subst (λ j. slice_index_or (slice_set s.endpoint.streams m (Some (connected o (Some m)).stream)) j None ≡ Some (connected o (Some m)).stream) same (at_same s m (connected o (Some m)).stream room) in
+        let here : stream_of s'.endpoint n ≡ Some (connected o (Some m)).stream =
+        ap (λ xs. slice_index_or xs n None) left ∙ subst (λ j. slice_index_or (slice_set s.endpoint.streams m (Some (connected o (Some m)).stream)) j None ≡ Some (connected o (Some m)).stream) same (at_same s m (connected o (Some m)).stream new.number) in
         let closed : has_stream s.endpoint n ≡ false = subst (λ j. has_stream s.endpoint j ≡ false) same new.fresh in
         let before : openings n done ≡ [] = unopened (openings n done) (sym (k.opened n) ∙ closed) in
         let now : opening_of n (done ++ act ∷ []) ≡ o = ap opening_in (openings-push n done act ∙ (λ i. before i ++ (one ∙ opening_one (eqb m n) o e) i)) in
         let none : stream_acts n (done ++ act ∷ []) ≡ [] = stream_acts-push n done act ∙ (λ i. k.unused n closed i ++ silent i) in
         let queue : (pooling (done ++ act ∷ [])).queues n ≡ sharing = same_queue n done act silent ∙ queue_unused n done (k.unused n closed) in
-        let quiet : [] ≡ wire_at (end_after s act) n = sym (wire_still s act n silent ∙ p.own.own.wire ∙ ap sent (k.unused n closed) ∙ nothing_sent) in
+        let quiet : [] ≡ wire_at s' n = sym (wire ∙ p.own.own.wire ∙ ap sent (k.unused n closed) ∙ nothing_sent) in
         moved l d u (sym now) (λ i. record { stream = unwrap_or (sym here i) no_stream; wire = quiet i }) (sym (first_told o) ∙ (λ i. told_by (sym now i).shared (sym now i) (sym none i) (sym queue i)))
         (reopened o (opening_of n done) l (Some m) (connected_at s n) (opening_of n done).shared ((pooling done).queues n) (stream_acts n done) d u asks (k.unused n closed) p)
 
@@ -412,7 +416,7 @@ acted_here s peer done act n l u k pools rule p =
     let opening_is : opening_of n (done ++ Stream n act ∷ []) ≡ o = ap opening_in (opens_same n done (Stream n act) refl) in
     let acts_are : stream_acts n (done ++ Stream n act ∷ []) ≡ those ++ act ∷ [] = acts_next n done n act one in
     let here : stream_of (end_after s (Stream n act)).endpoint n ≡ Some (left_at s.endpoint n act) = at_act s.endpoint (Stream n act) n rule.0 ∙ at_same s n (left_at s.endpoint n act) there in
-    let room : n < length s.wires = omega (arith, there, k.numbers, k.wires) in
+    let room : n < length s.wires = omega (arith, there, k.wires) in
     let wire : WireRule u.sent act = subst (λ z. WireRule z act) p.own_peer.own.wire rule.1.1 in
     let numbered : IsNumbered (tale_of o those).story.first act =
     subst (λ z. IsNumbered z act) (ap (λ (z : StreamState). z.first) (left_apart p.own.is_left) ∙ sym p.own.own.numbered.first) (numbered_at s.endpoint n act rule.0.1) in
@@ -425,27 +429,39 @@ acted_here s peer done act n l u k pools rule p =
     moved l (connected_at peer n) u (sym opening_is) (λ i. record { stream = unwrap_or (sym here i) no_stream; wire = wire_more s n n act refl room i })
     (λ i. told_by (sym opening_is i).shared (sym opening_is i) (sym acts_are i) queue) next
 
+-- the private data of an opening fits
+pub fits_so : (shared : Bool) (pd : ℕ) (role : Role) (options : Options) (private : Octets) → exceeds_request role (config_for options private) ≡ false → OpensFit (opening_by shared pd role options private)
+fits_so shared pd role options private h = record { small = omega (arith, length-take 512 private); fits = h }
+
+pub open_fits : (e : EndpointState) (n pd : ℕ) (role : Role) (options : Options) (private : Octets) → None ≡ open_refusal e n pd role (config_for options private) → OpensFit (opening_by false pd role options private)
+open_fits e n pd role options private rule =
+    fits_so false pd role options private (last_reason (number_refusal e n pd) (exceeds_request role (config_for options private)) open_refusals.PrivateTooLong rule)
+
+pub shared_fits : (e : EndpointState) (n pd : ℕ) (role : Role) (options : Options) (private : Octets) → None ≡ open_shared_refusal e n pd role (config_for options private) → OpensFit (opening_by true pd role options private)
+shared_fits e n pd role options private rule =
+    fits_so true pd role options private (last_shared (option_map open_shared_refusal_of (number_refusal e n pd)) (unshared (pool_of e pd)) (exceeds_request role (config_for options private)) rule)
+
 -- an act of an end, as each of its streams sees it
 acted : (s peer : EndState) (done : List (Act Octets)) (act : Act Octets) (n : ℕ) (l : Opening) (u : Tale) → EndSeen s done → PoolsSeen s done → Rule s peer act → Pair (opening_of n done) (connected_at s n) (tale n done) l (connected_at peer n) u
     → Pair (opening_of n (done ++ act ∷ [])) (connected_at (end_after s act) n) (tale n (done ++ act ∷ [])) l (connected_at peer n) u
-acted s peer done (Domain pd refused) n l u k pools rule p = same_stream s (Domain pd refused) n done l (connected_at peer n) u rule.0 refl refl refl p
-acted s peer done (Register pd base rights octets answer) n l u k pools rule p = same_stream s (Register pd base rights octets answer) n done l (connected_at peer n) u rule.0 refl refl refl p
-acted s peer done (Deregister stag answer) n l u k pools rule p = same_stream s (Deregister stag answer) n done l (connected_at peer n) u rule.0 refl refl refl p
-acted s peer done (Invalidate stag refused) n l u k pools rule p = same_stream s (Invalidate stag refused) n done l (connected_at peer n) u rule.0 refl refl refl p
-acted s peer done (Store stag to octets refused) n l u k pools rule p = same_stream s (Store stag to octets refused) n done l (connected_at peer n) u rule.0 refl refl refl p
-acted s peer done (Share pd refused) n l u k pools rule p = same_stream s (Share pd refused) n done l (connected_at peer n) u rule.0 refl refl refl p
-acted s peer done (Pool pd len refused) n l u k pools rule p = same_stream s (Pool pd len refused) n done l (connected_at peer n) u rule.0 refl refl refl p
-acted s peer done (Unpool pd answer) n l u k pools rule p = same_stream s (Unpool pd answer) n done l (connected_at peer n) u rule.0 refl refl refl p
-acted s peer done (Open m pd role options private (Some refusal)) n l u k pools rule p = same_stream s (Open m pd role options private (Some refusal)) n done l (connected_at peer n) u rule.0 refl refl refl p
-acted s peer done (OpenShared m pd role options private (Some refusal)) n l u k pools rule p = same_stream s (OpenShared m pd role options private (Some refusal)) n done l (connected_at peer n) u rule.0 refl refl refl p
+acted s peer done (Domain pd refused) n l u k pools rule p = stream_kept s (Domain pd refused) n done l (connected_at peer n) u rule.0 refl refl refl p
+acted s peer done (Register pd base rights octets answer) n l u k pools rule p = stream_kept s (Register pd base rights octets answer) n done l (connected_at peer n) u rule.0 refl refl refl p
+acted s peer done (Deregister stag answer) n l u k pools rule p = stream_kept s (Deregister stag answer) n done l (connected_at peer n) u rule.0 refl refl refl p
+acted s peer done (Invalidate stag refused) n l u k pools rule p = stream_kept s (Invalidate stag refused) n done l (connected_at peer n) u rule.0 refl refl refl p
+acted s peer done (Store stag to octets refused) n l u k pools rule p = stream_kept s (Store stag to octets refused) n done l (connected_at peer n) u rule.0 refl refl refl p
+acted s peer done (Share pd refused) n l u k pools rule p = stream_kept s (Share pd refused) n done l (connected_at peer n) u rule.0 refl refl refl p
+acted s peer done (Pool pd len refused) n l u k pools rule p = stream_kept s (Pool pd len refused) n done l (connected_at peer n) u rule.0 refl refl refl p
+acted s peer done (Unpool pd answer) n l u k pools rule p = stream_kept s (Unpool pd answer) n done l (connected_at peer n) u rule.0 refl refl refl p
+acted s peer done (Open m pd role options private (Some refusal)) n l u k pools rule p = stream_kept s (Open m pd role options private (Some refusal)) n done l (connected_at peer n) u rule.0 refl refl refl p
+acted s peer done (OpenShared m pd role options private (Some refusal)) n l u k pools rule p = stream_kept s (OpenShared m pd role options private (Some refusal)) n done l (connected_at peer n) u rule.0 refl refl refl p
 acted s peer done (Open m pd role options private None) n l u k pools rule p =
-    opened_pair s done (Open m pd role options private None) m n (opening_by false pd role options private) l (connected_at peer n) u k rule.0 (opens s m pd role (config_for options private) rule.0) (record { small = omega (arith, length-take 512 private); fits = last_reason (number_refusal s.endpoint m pd) (exceeds_request role (config_for options private)) open_refusals.PrivateTooLong rule.0 }) refl refl refl p
+    opened_pair s (end_after s (Open m pd role options private None)) done (Open m pd role options private None) m n (opening_by false pd role options private) l (connected_at peer n) u k (opens s m pd k.domains (numbered_open s.endpoint m pd role (config_for options private) rule.0)) (open_fits s.endpoint m pd role options private rule.0) refl (streams_left s.endpoint (Open m pd role options private None) rule.0) refl refl p
 acted s peer done (OpenShared m pd role options private None) n l u k pools rule p =
-    opened_pair s done (OpenShared m pd role options private None) m n (opening_by true pd role options private) l (connected_at peer n) u k rule.0 (opens_shared s m pd role (config_for options private) rule.0) (record { small = omega (arith, length-take 512 private); fits = last_shared (option_map open_shared_refusal_of (number_refusal s.endpoint m pd)) (unshared (pool_of s.endpoint pd)) (exceeds_request role (config_for options private)) rule.0 }) refl refl refl p
+    opened_pair s (end_after s (OpenShared m pd role options private None)) done (OpenShared m pd role options private None) m n (opening_by true pd role options private) l (connected_at peer n) u k (opens s m pd k.domains (numbered_shared s.endpoint m pd role (config_for options private) rule.0)) (shared_fits s.endpoint m pd role options private rule.0) refl (streams_left s.endpoint (OpenShared m pd role options private None) rule.0) refl refl p
 acted s peer done (Stream m act) n l u k pools rule p = go (eqb m n) refl
   where
     go : (b : Bool) → eqb m n ≡ b → Pair (opening_of n (done ++ Stream m act ∷ [])) (connected_at (end_after s (Stream m act)) n) (tale n (done ++ Stream m act ∷ [])) l (connected_at peer n) u
-    go false e = same_stream s (Stream m act) n done l (connected_at peer n) u rule.0 (at_other s m n (Some (left_at s.endpoint m act)) e) refl (acts_none m n act e) p
+    go false e = stream_kept s (Stream m act) n done l (connected_at peer n) u rule.0 (at_other s m n (Some (left_at s.endpoint m act)) e) refl (acts_none m n act e) p
     go true e =
         subst (λ j. Rule s peer (Stream j act) → Pair (opening_of n (done ++ Stream j act ∷ [])) (connected_at (end_after s (Stream j act)) n) (tale n (done ++ Stream j act ∷ [])) l (connected_at peer n) u) (sym (eqb-true m n e))
         (λ rule. acted_here s peer done act n l u k pools rule p) rule
@@ -507,7 +523,7 @@ emits_few opening table c t Break rule o = omega arith
 -- ---- both ends
 
 -- a stream of a number at two ends, by their acts
-abbrev PairAt : EndState → List (Act Octets) → EndState → List (Act Octets) → ℕ → Type 0
+abbrev pub PairAt : EndState → List (Act Octets) → EndState → List (Act Octets) → ℕ → Type 0
 PairAt s own peer others n = Pair (opening_of n own) (connected_at s n) (tale n own) (opening_of n others) (connected_at peer n) (tale n others)
 
 -- what the entries and the state have in common
@@ -516,11 +532,11 @@ pub record Keeps (trace : List (Entry Octets)) (w : State) : Type 0 where
   pub pools : (x : End) → PoolsSeen (end_of x w) (acts x trace)
   pub pairs : (x : End) (n : ℕ) → PairAt (end_of x w) (acts x trace) (end_of (other x) w) (acts (other x) trace) n
 
-changed : (x : End) (s : EndState) (w : State) → end_of x (with_end x s w) ≡ s
+pub changed : (x : End) (s : EndState) (w : State) → end_of x (with_end x s w) ≡ s
 changed A s w = refl
 changed B s w = refl
 
-unchanged : (x : End) (s : EndState) (w : State) → end_of (other x) (with_end x s w) ≡ end_of (other x) w
+pub unchanged : (x : End) (s : EndState) (w : State) → end_of (other x) (with_end x s w) ≡ end_of (other x) w
 unchanged A s w = refl
 unchanged B s w = refl
 
@@ -535,34 +551,41 @@ both P A here there B = there
 both P B here there A = there
 both P B here there B = here
 
-pub one_more : (trace : List (Entry Octets)) (w : State) (e : Entry Octets) → Keeps trace w → Rule (end_of e.end w) (end_of (other e.end) w) e.act → Keeps (trace ++ e ∷ []) (after_entry w e)
-one_more trace w e k rule =
-    let x : End = e.end in
-    let y : End = other e.end in
-    let s : EndState = end_of x w in
-    let s' : EndState = end_after s e.act in
-    let w' : State = after_entry w e in
+-- an act leaves this end, and the other as it was
+pub end_moved : (trace : List (Entry Octets)) (w : State) (x : End) (act : Act Octets) (s' : EndState) → Keeps trace w → EndSeen s' (acts x trace ++ act ∷ []) → PoolsSeen s' (acts x trace ++ act ∷ [])
+    → ((n : ℕ) → PairAt s' (acts x trace ++ act ∷ []) (end_of (other x) w) (acts (other x) trace) n) → Keeps (trace ++ record { end = x; act = act } ∷ []) (with_end x s' w)
+end_moved trace w x act s' k seen pooled pair =
+    let e : Entry Octets = record { end = x; act = act } in
+    let y : End = other x in
+    let w' : State = with_end x s' w in
     let here : end_of x w' ≡ s' = changed x s' w in
     let there : end_of y w' ≡ end_of y w = unchanged x s' w in
-    let mine : acts x (trace ++ e ∷ []) ≡ acts x trace ++ e.act ∷ [] = acts_mine trace e in
+    let mine : acts x (trace ++ e ∷ []) ≡ acts x trace ++ act ∷ [] = acts_mine trace e in
     let others : acts y (trace ++ e ∷ []) ≡ acts y trace = acts_other trace e in
     let E : End → Type 0 = λ v. EndSeen (end_of v w') (acts v (trace ++ e ∷ [])) in
-    let end_mine : E x = subst (λ z. EndSeen z (acts x (trace ++ e ∷ []))) (sym here) (subst (EndSeen s') (sym mine) (end_step s (end_of y w) (acts x trace) e.act (k.ends x) rule)) in
+    let end_mine : E x = subst (λ z. EndSeen z (acts x (trace ++ e ∷ []))) (sym here) (subst (EndSeen s') (sym mine) seen) in
     let end_other : E y = subst (λ z. EndSeen z (acts y (trace ++ e ∷ []))) (sym there) (subst (EndSeen (end_of y w)) (sym others) (k.ends y)) in
     let Q : End → Type 0 = λ v. PoolsSeen (end_of v w') (acts v (trace ++ e ∷ [])) in
-    let pools_mine : Q x = subst (λ z. PoolsSeen z (acts x (trace ++ e ∷ []))) (sym here) (subst (PoolsSeen s') (sym mine) (pools_next s (acts x trace) e.act (k.ends x) (k.pools x) rule.0 (λ n. (k.pairs x n).own))) in
+    let pools_mine : Q x = subst (λ z. PoolsSeen z (acts x (trace ++ e ∷ []))) (sym here) (subst (PoolsSeen s') (sym mine) pooled) in
     let pools_other : Q y = subst (λ z. PoolsSeen z (acts y (trace ++ e ∷ []))) (sym there) (subst (PoolsSeen (end_of y w)) (sym others) (k.pools y)) in
     let D : End → List (Act Octets) = λ v. acts v (trace ++ e ∷ []) in
     let P : End → Type 0 = λ v. (n : ℕ) → PairAt (end_of v w') (D v) (end_of (other v) w') (D (other v)) n in
     let pair_mine : P x = λ n.
-    let next : PairAt s' (acts x trace ++ e.act ∷ []) (end_of y w) (acts y trace) n =
-    acted s (end_of y w) (acts x trace) e.act n (opening_of n (acts y trace)) (tale n (acts y trace)) (k.ends x) (k.pools x) rule (k.pairs x n) in
     subst (λ z. PairAt z (D x) (end_of y w') (D y) n) (sym here)
     (subst (λ z. PairAt s' z (end_of y w') (D y) n) (sym mine)
-    (subst (λ z. PairAt s' (acts x trace ++ e.act ∷ []) z (D y) n) (sym there)
-    (subst (λ z. PairAt s' (acts x trace ++ e.act ∷ []) (end_of y w) z n) (sym others) next))) in
+    (subst (λ z. PairAt s' (acts x trace ++ act ∷ []) z (D y) n) (sym there)
+    (subst (λ z. PairAt s' (acts x trace ++ act ∷ []) (end_of y w) z n) (sym others) (pair n)))) in
     let pair_other : P y = λ n. subst (λ v. PairAt (end_of y w') (D y) (end_of v w') (D v) n) (sym (twice x)) (swapped (pair_mine n)) in
     record { ends = both E x end_mine end_other; pools = both Q x pools_mine pools_other; pairs = both P x pair_mine pair_other }
+
+pub one_more : (trace : List (Entry Octets)) (w : State) (e : Entry Octets) → Keeps trace w → Rule (end_of e.end w) (end_of (other e.end) w) e.act → Keeps (trace ++ e ∷ []) (after_entry w e)
+one_more trace w e k rule =
+    let x : End = e.end in
+    let s : EndState = end_of x w in
+    let peer : EndState = end_of (other x) w in
+    end_moved trace w x e.act (end_after s e.act) k (end_step s peer (acts x trace) e.act (k.ends x) rule)
+    (pools_next s (acts x trace) e.act (k.ends x) (k.pools x) rule.0 (λ n. (k.pairs x n).own))
+    (λ n. acted s peer (acts x trace) e.act n (opening_of n (acts (other x) trace)) (tale n (acts (other x) trace)) (k.ends x) (k.pools x) rule (k.pairs x n))
 
 -- from a moment on, to the end of what follows the rules
 pub onward : (past rest : List (Entry Octets)) (w : State) → Keeps past w → Follows w rest → Keeps (past ++ rest) (state_after w rest)
@@ -594,35 +617,33 @@ no_pair = record {
   back = λ raw. nothing_of no_opening (tale_of no_opening []).sent;
 }
 
-none_at : (n : ℕ) → slice_index_or no_streams n None ≡ None
-unfolding no_streams
-none_at n = none_in 64 n
-  where
-    none_in : (k n : ℕ) → slice_index_or (replicate {A = Option StreamState} k None) n None ≡ None
-    none_in zero n = refl
-    none_in (suc k) zero = refl
-    none_in (suc k) (suc n) = none_in k n
+-- ends with this many places for streams
+abbrev pub end_with : ℕ → EndState
+end_with size = record { endpoint = record fresh { streams = replicate size None }; wires = replicate size [] }
 
-no_wire : (n : ℕ) → slice_index_or no_wires n [] ≡ []
-unfolding no_wires
-no_wire n = none_in 64 n
-  where
-    none_in : (k n : ℕ) → slice_index_or (replicate {A = Octets} k []) n [] ≡ []
-    none_in zero n = refl
-    none_in (suc k) zero = refl
-    none_in (suc k) (suc n) = none_in k n
+abbrev pub start_with : ℕ → State
+start_with size = record { a = end_with size; b = end_with size }
 
-fresh_end : (x : End) → EndSeen at_first (acts x [])
-unfolding acts openings stream_acts table_after no_streams no_wires
-fresh_end x = record {
+pub none_at : (size n : ℕ) → slice_index_or (replicate {A = Option StreamState} size None) n None ≡ None
+none_at zero n = refl
+none_at (suc size) zero = refl
+none_at (suc size) (suc n) = none_at size n
+
+pub no_wire : (size n : ℕ) → slice_index_or (replicate {A = Octets} size []) n [] ≡ []
+no_wire zero n = refl
+no_wire (suc size) zero = refl
+no_wire (suc size) (suc n) = no_wire size n
+
+fresh_end : (size : ℕ) (x : End) → 64 ≤ size → EndSeen (end_with size) (acts x [])
+unfolding acts openings stream_acts table_after
+fresh_end size x many = record {
   table = refl;
-  domains = fresh_domains;
-  numbers = refl;
-  wires = refl;
+  domains = (fresh_domains.0, fresh_domains.1, omega (arith, many, length-replicate {A = Option StreamState} size None));
+  wires = length-replicate {A = Octets} size [] ∙ sym (length-replicate {A = Option StreamState} size None);
   none_closed = refl;
-  opened = λ n. ap is_some (none_at n);
-  peer = λ n h. absurd (false≢true (ap is_some (sym (none_at n)) ∙ h));
-  pooled = λ n h. absurd (false≢true (ap is_some (sym (none_at n)) ∙ h));
+  opened = λ n. ap is_some (none_at size n);
+  peer = λ n h. absurd (false≢true (ap is_some (sym (none_at size n)) ∙ h));
+  pooled = λ n h. absurd (false≢true (ap is_some (sym (none_at size n)) ∙ h));
   unused = λ n h. refl;
 }
 
@@ -635,9 +656,9 @@ nothing_said : (n : ℕ) (x : End) → tale_of no_opening [] ≡ tale n (acts x 
 unfolding acts openings stream_acts
 nothing_said n x = refl
 
-start_at : (n : ℕ) (x : End) → unconnected ≡ connected_at (end_of x start) n
-start_at n A = λ i. record { stream = unwrap_or (sym (none_at n) i) no_stream; wire = sym (no_wire n) i }
-start_at n B = λ i. record { stream = unwrap_or (sym (none_at n) i) no_stream; wire = sym (no_wire n) i }
+start_at : (size n : ℕ) (x : End) → unconnected ≡ connected_at (end_of x (start_with size)) n
+start_at size n A = λ i. record { stream = unwrap_or (sym (none_at size n) i) no_stream; wire = sym (no_wire size n) i }
+start_at size n B = λ i. record { stream = unwrap_or (sym (none_at size n) i) no_stream; wire = sym (no_wire size n) i }
 
 no_pool_at : (d : ℕ) → slice_index_or no_pools d None ≡ None
 unfolding no_pools
@@ -652,21 +673,25 @@ pooled_none : (d : ℕ) (x : End) → None ≡ pool_by d (acts x [])
 unfolding acts pooling
 pooled_none d x = refl
 
-pub unsaid : Keeps [] start
-unsaid = record { ends = start_end; pools = start_pools; pairs = start_pair }
+pub unsaid_with : (size : ℕ) → 64 ≤ size → Keeps [] (start_with size)
+unsaid_with size many = record { ends = start_end; pools = start_pools; pairs = start_pair }
   where
-    start_pools : (x : End) → PoolsSeen (end_of x start) (acts x [])
+    start_pools : (x : End) → PoolsSeen (end_of x (start_with size)) (acts x [])
     start_pools A d = no_pool_at d ∙ pooled_none d A
     start_pools B d = no_pool_at d ∙ pooled_none d B
 
-    start_end : (x : End) → EndSeen (end_of x start) (acts x [])
-    start_end A = fresh_end A
-    start_end B = fresh_end B
+    start_end : (x : End) → EndSeen (end_of x (start_with size)) (acts x [])
+    start_end A = fresh_end size A many
+    start_end B = fresh_end size B many
 
-    start_pair : (x : End) (n : ℕ) → PairAt (end_of x start) (acts x []) (end_of (other x) start) (acts (other x) []) n
+    start_pair : (x : End) (n : ℕ) → PairAt (end_of x (start_with size)) (acts x []) (end_of (other x) (start_with size)) (acts (other x) []) n
     start_pair x n =
-        moved (opening_of n (acts (other x) [])) (connected_at (end_of (other x) start) n) (tale n (acts (other x) [])) (nothing_opened n x) (start_at n x) (nothing_said n x)
-        (swapped (moved no_opening unconnected (tale_of no_opening []) (nothing_opened n (other x)) (start_at n (other x)) (nothing_said n (other x)) no_pair))
+        moved (opening_of n (acts (other x) [])) (connected_at (end_of (other x) (start_with size)) n) (tale n (acts (other x) [])) (nothing_opened n x) (start_at size n x) (nothing_said n x)
+        (swapped (moved no_opening unconnected (tale_of no_opening []) (nothing_opened n (other x)) (start_at size n (other x)) (nothing_said n (other x)) no_pair))
+
+pub unsaid : Keeps [] start
+unfolding no_streams no_wires
+unsaid = unsaid_with 64 (omega arith)
 
 -- ---- what a law sees of it: the pool of its domain is lent to each stream
 
@@ -692,7 +717,7 @@ pub record Seen (trace : List (Entry Octets)) (w : State) : Type 0 where
   pub pools : (x : End) → PoolsSeen (end_of x w) (acts x trace)
   pub pairs : (x : End) (n : ℕ) → PairSeenAt (end_of x w) (acts x trace) (end_of (other x) w) (acts (other x) trace) n
 
-keeps_seen : (trace : List (Entry Octets)) (w : State) → Keeps trace w → Seen trace w
+pub keeps_seen : (trace : List (Entry Octets)) (w : State) → Keeps trace w → Seen trace w
 keeps_seen trace w k = record {
   ends = k.ends;
   pools = k.pools;

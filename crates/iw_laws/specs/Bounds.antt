@@ -7,7 +7,7 @@ use Rattle.iw_events.specs.declared.call.StreamCall.{StreamCall}
 use Rattle.iw_events.specs.declared.call.StreamCall.TheVariants.{Recv, Post, Emit, First, Deliver, Raw, Mulpdu, Accept, Reject, Work, Break}
 use Rattle.iw_stream.specs.Stream.{StreamState}
 use Rattle.iw_laws.specs.Words.{Octets}
-use Rattle.iw_endpoint.specs.Endpoint.{stream_numbers, has_stream, stream_at}
+use Rattle.iw_endpoint.specs.Endpoint.{has_stream, stream_at}
 use Rattle.iw_laws.specs.Rules.{EndState, State, end_of, wire_at, needs_peer}
 
 -- at most 2^62 octets were emitted, and the in-order point lies at 2^62 at most
@@ -15,9 +15,9 @@ pub record IsShort (s : StreamState) : Type 0 where
   pub sent : s.sent ≤ 2 ^ 62
   pub point : s.arrived.floor ≤ 2 ^ 62
 
--- so at each stream of an end, and all have numbers below 64
+-- so at each stream of an end, and what each emitted has a place
 pub record IsShortEnd (s : EndState) : Type 0 where
-  pub numbers : length s.endpoint.streams ≡ stream_numbers
+  pub laid : length s.wires ≡ length s.endpoint.streams
   pub streams : (n : ℕ) → IsShort (stream_at s.endpoint n)
   pub wires : (n : ℕ) → length (wire_at s n) ≤ 2 ^ 62
 

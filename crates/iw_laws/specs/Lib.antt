@@ -11,6 +11,10 @@ pub mod Once
 pub mod Ends
 pub mod Faithful
 pub mod Calls
+pub mod Plain
+pub mod Servers
+pub mod ServerLaws
+pub mod ServerStops
 pub mod Holds
 pub mod Busy
 pub mod WrongRuns
@@ -22,3 +26,4 @@ pub mod RestRuns
 pub mod HeldRuns
 pub mod PoolRuns
 pub mod EnhancedRuns
+pub mod ServerRuns

@@ -5,6 +5,9 @@
 //! `proofs/` has that each law follows from the rules. `iw_world` runs events by the rules, and promises the laws of its
 //! traces. [`wrong_runs`], [`early_runs`], [`rest_runs`], [`held_runs`], [`pool_runs`] and [`enhanced_runs`] have for each law a
 //! run that the law alone is false of.
+//!
+//! [`servers`] has the laws of ends that serve any number of connections, whose streams come and go, and [`server_runs`] wrong
+//! runs of these.
 #![tactic(auto)]
 
 pub mod early_runs;
@@ -13,6 +16,8 @@ mod fault;
 pub mod held_runs;
 pub mod pool_runs;
 pub mod rest_runs;
+pub mod server_runs;
+pub mod servers;
 pub mod wrong_runs;
 
 pub use fault::WorldFault;

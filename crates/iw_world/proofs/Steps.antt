@@ -51,13 +51,13 @@ any_default (x ∷ xs) zero a b h = refl
 any_default (x ∷ xs) (suc n) a b h = any_default xs n a b (omega (arith, h))
 
 -- what was emitted goes out behind what was
-pub emission_left : (s : EndState) (n : ℕ) (shown : Shown Octets) (left : EndpointState) (before beyond : Octets) → has_stream s.endpoint n ≡ true → length s.endpoint.streams ≡ 64 → length s.wires ≡ 64 → shown ≡ shown_of s.endpoint.table (emission_at s.endpoint n) (emitted_at s.endpoint n)
+pub emission_left : (s : EndState) (n : ℕ) (shown : Shown Octets) (left : EndpointState) (before beyond : Octets) → has_stream s.endpoint n ≡ true → length s.wires ≡ length s.endpoint.streams → shown ≡ shown_of s.endpoint.table (emission_at s.endpoint n) (emitted_at s.endpoint n)
     → left ≡ after_emit s.endpoint n → before ≡ slice_index_or s.wires n before → beyond ≡ before ++ emitted_at s.endpoint n → record { endpoint = left; wires = slice_set s.wires n beyond } ≡ end_after s (Stream n (Emit shown))
-emission_left s n shown left before beyond h streams wires shown_is left_is before_is past_is =
+emission_left s n shown left before beyond h laid shown_is left_is before_is past_is =
     let octets : octets_shown shown ≡ emitted_at s.endpoint n = ap octets_shown shown_is ∙ shown_sends s.endpoint.table (stream_at s.endpoint n) in
     let endpoint_is = left_is ∙ sym (found (stream_of s.endpoint n) s.endpoint (after_emit s.endpoint n) h) in
     let number : n < length s.endpoint.streams = there s.endpoint.streams n h in
-    let room : n < length s.wires = omega (arith, number, streams, wires) in
+    let room : n < length s.wires = omega (arith, number, laid) in
     let first : before ≡ slice_index_or s.wires n [] = before_is ∙ any_default s.wires n before [] room in
     let wire_is = past_is ∙ (λ i. first i ++ sym octets i) in
     (λ i. record { endpoint = endpoint_is i; wires = slice_set s.wires n (wire_is i) })

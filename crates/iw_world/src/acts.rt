@@ -3,7 +3,7 @@
 ghost use Rattle.std.specs.Prelude.{◌≡◌, ◌≢◌, ◌+◌, ◌%◌, ◌<◌, ◌≤◌, ◌^◌, true, false, length, take, is_some, IfOk, IfErr, OnOk};
 ghost use Rattle.iw_events.specs.declared.act.Seen.TheVariants.{Received};
 ghost use Rattle.iw_events.specs.Events.{stream_call_of};
-ghost use Rattle.iw_endpoint.specs.Endpoint.{stream_numbers, has_stream, stream_at, private_at, told_at};
+ghost use Rattle.iw_endpoint.specs.Endpoint.{has_stream, stream_at, private_at, told_at};
 ghost use Rattle.iw_laws.specs.Bounds.{IsShort};
 ghost use Rattle.iw_laws.specs.Rules.{needs_peer, seen_of};
 ghost use Rattle.iw_events.specs.declared.act.Act.{Act};
@@ -29,7 +29,7 @@ impl<A: Allocator + Copy> Host<A> {
         &mut self,
         alloc: A,
         peer: &Host<A>,
-        number: u8,
+        number: u32,
         call: &StreamCall<Bytes<A>>,
     ) -> Result<StreamAct<Bytes<A>>, Failure>
         requires short { IsShortEnd self.old }
@@ -57,11 +57,11 @@ impl<A: Allocator + Copy> Host<A> {
         &mut self,
         alloc: A,
         wire: &[u8],
-        number: u8,
+        number: u32,
         call: &StreamCall<Bytes<A>>,
     ) -> Result<StreamAct<Bytes<A>>, Failure>
         requires there { has_stream self.old.endpoint number ≡ true }
-        requires numbers { length self.old.endpoint.streams ≡ stream_numbers }
+        requires laid { length self.old.wires ≡ length self.old.endpoint.streams }
         requires short { IsShort (stream_at self.old.endpoint number) }
         requires wire { length wire.now ≤ 2 ^ 62 }
         ensures rule { IfOk result (λ act. EndRule self.old.endpoint (Act.Stream number act)) }
@@ -89,7 +89,7 @@ impl<A: Allocator + Copy> Host<A> {
         }
     }
 
-    fn recv(&mut self, alloc: A, number: u8, len: u32) -> Result<StreamAct<Bytes<A>>, Failure>
+    fn recv(&mut self, alloc: A, number: u32, len: u32) -> Result<StreamAct<Bytes<A>>, Failure>
         requires { has_stream self.old.endpoint number ≡ true }
         ensures rule { IfOk result (λ act. EndRule self.old.endpoint (Act.Stream number act)) }
         ensures call { IfOk result (λ act. stream_call_of act ≡ StreamCall.Recv len) }
@@ -97,13 +97,13 @@ impl<A: Allocator + Copy> Host<A> {
         ensures failure { IfErr result (λ failure. failure ≡ Failure.NoMemory) }
     {
         let buffer = vec![in alloc; 0; len as usize]?;
-        let refused = stream::post_recv(&mut self.endpoint, u32::from(number), buffer)?;
+        let refused = stream::post_recv(&mut self.endpoint, number, buffer)?;
         Ok(StreamAct::Recv { len, refused })
     }
 
     fn post(
         &mut self,
-        number: u8,
+        number: u32,
         message: &Request<Bytes<A>>,
     ) -> Result<StreamAct<Bytes<A>>, Failure>
         requires { has_stream self.old.endpoint number ≡ true }
@@ -113,16 +113,16 @@ impl<A: Allocator + Copy> Host<A> {
         ensures failure { IfErr result (λ failure. failure ≡ Failure.NoMemory) }
     {
         known(message);
-        let refused = stream::post(&mut self.endpoint, u32::from(number), shared(message)?)?;
+        let refused = stream::post(&mut self.endpoint, number, shared(message)?)?;
         Ok(StreamAct::Post {
             message: shared(message)?,
             refused,
         })
     }
 
-    fn emit(&mut self, alloc: A, number: u8) -> Result<StreamAct<Bytes<A>>, Failure>
+    fn emit(&mut self, alloc: A, number: u32) -> Result<StreamAct<Bytes<A>>, Failure>
         requires there { has_stream self.old.endpoint number ≡ true }
-        requires numbers { length self.old.endpoint.streams ≡ stream_numbers }
+        requires laid { length self.old.wires ≡ length self.old.endpoint.streams }
         requires short { IsShort (stream_at self.old.endpoint number) }
         ensures rule { IfOk result (λ act. EndRule self.old.endpoint (Act.Stream number act)) }
         ensures call { IfOk result (λ act. stream_call_of act ≡ StreamCall.Emit) }
@@ -138,7 +138,7 @@ impl<A: Allocator + Copy> Host<A> {
         &mut self,
         alloc: A,
         wire: &[u8],
-        number: u8,
+        number: u32,
         from: u64,
         len: u64,
     ) -> Result<StreamAct<Bytes<A>>, Failure>
@@ -158,8 +158,8 @@ impl<A: Allocator + Copy> Host<A> {
         let start = from as usize;
         let octets = &wire[start..start + len as usize];
         let copy = Bytes::copy_from_slice(alloc, octets)?;
-        let handed_in = number_of(stream::first_of(&self.endpoint, u32::from(number)), from);
-        let delivery = stream::deliver(&mut self.endpoint, u32::from(number), handed_in, octets)?;
+        let handed_in = number_of(stream::first_of(&self.endpoint, number), from);
+        let delivery = stream::deliver(&mut self.endpoint, number, handed_in, octets)?;
         Ok(StreamAct::Deliver {
             from,
             number: handed_in,
@@ -170,7 +170,7 @@ impl<A: Allocator + Copy> Host<A> {
 
     fn raw(
         &mut self,
-        number: u8,
+        number: u32,
         from: u32,
         octets: &Bytes<A>,
     ) -> Result<StreamAct<Bytes<A>>, Failure>
@@ -182,7 +182,7 @@ impl<A: Allocator + Copy> Host<A> {
     {
         let copy = octets.clone()?;
         let octets = octets.as_slice();
-        let delivery = stream::deliver(&mut self.endpoint, u32::from(number), from, octets)?;
+        let delivery = stream::deliver(&mut self.endpoint, number, from, octets)?;
         Ok(StreamAct::Raw {
             number: from,
             octets: copy,
@@ -190,30 +190,30 @@ impl<A: Allocator + Copy> Host<A> {
         })
     }
 
-    fn first(&mut self, number: u8, first: u32) -> StreamAct<Bytes<A>>
+    fn first(&mut self, number: u32, first: u32) -> StreamAct<Bytes<A>>
         requires { has_stream self.old.endpoint number ≡ true }
         ensures rule { EndRule self.old.endpoint (Act.Stream number result) }
         ensures call { stream_call_of result ≡ StreamCall.First first }
         ensures state { self.new ≡ end_after self.old (Act.Stream number result) }
     {
-        let refused = stream::set_first(&mut self.endpoint, u32::from(number), first);
+        let refused = stream::set_first(&mut self.endpoint, number, first);
         StreamAct::First {
             number: first,
             refused,
         }
     }
 
-    fn mulpdu(&mut self, number: u8, size: u32) -> StreamAct<Bytes<A>>
+    fn mulpdu(&mut self, number: u32, size: u32) -> StreamAct<Bytes<A>>
         requires { has_stream self.old.endpoint number ≡ true }
         ensures rule { EndRule self.old.endpoint (Act.Stream number result) }
         ensures call { stream_call_of result ≡ StreamCall.Mulpdu size }
         ensures state { self.new ≡ end_after self.old (Act.Stream number result) }
     {
-        let refused = stream::set_mulpdu(&mut self.endpoint, u32::from(number), size);
+        let refused = stream::set_mulpdu(&mut self.endpoint, number, size);
         StreamAct::Mulpdu { size, refused }
     }
 
-    fn accept(&mut self, number: u8, private: &Bytes<A>) -> Result<StreamAct<Bytes<A>>, Failure>
+    fn accept(&mut self, number: u32, private: &Bytes<A>) -> Result<StreamAct<Bytes<A>>, Failure>
         requires { has_stream self.old.endpoint number ≡ true }
         ensures rule { IfOk result (λ act. EndRule self.old.endpoint (Act.Stream number act)) }
         ensures call { IfOk result (λ act. stream_call_of act ≡ StreamCall.Accept private.now) }
@@ -222,14 +222,14 @@ impl<A: Allocator + Copy> Host<A> {
     {
         let copy = private.clone()?;
         let reply = private_data(private.as_slice());
-        let answer = stream::accept(&mut self.endpoint, u32::from(number), reply);
+        let answer = stream::accept(&mut self.endpoint, number, reply);
         Ok(StreamAct::Accept {
             private: copy,
             answer,
         })
     }
 
-    fn reject(&mut self, number: u8, private: &Bytes<A>) -> Result<StreamAct<Bytes<A>>, Failure>
+    fn reject(&mut self, number: u32, private: &Bytes<A>) -> Result<StreamAct<Bytes<A>>, Failure>
         requires { has_stream self.old.endpoint number ≡ true }
         ensures rule { IfOk result (λ act. EndRule self.old.endpoint (Act.Stream number act)) }
         ensures call { IfOk result (λ act. stream_call_of act ≡ StreamCall.Reject private.now) }
@@ -238,14 +238,14 @@ impl<A: Allocator + Copy> Host<A> {
     {
         let copy = private.clone()?;
         let reply = private_data(private.as_slice());
-        let refused = stream::reject(&mut self.endpoint, u32::from(number), reply);
+        let refused = stream::reject(&mut self.endpoint, number, reply);
         Ok(StreamAct::Reject {
             private: copy,
             refused,
         })
     }
 
-    fn work(&mut self, alloc: A, number: u8) -> Result<StreamAct<Bytes<A>>, Failure>
+    fn work(&mut self, alloc: A, number: u32) -> Result<StreamAct<Bytes<A>>, Failure>
         requires there { has_stream self.old.endpoint number ≡ true }
         requires short { IsShort (stream_at self.old.endpoint number) }
         ensures rule { IfOk result (λ act. EndRule self.old.endpoint (Act.Stream number act)) }
@@ -253,19 +253,19 @@ impl<A: Allocator + Copy> Host<A> {
         ensures state { IfOk result (λ act. self.new ≡ end_after self.old (Act.Stream number act)) }
         ensures failure { IfErr result (λ failure. failure ≡ Failure.NoMemory) }
     {
-        let step = stream::work(&mut self.endpoint, u32::from(number))?;
+        let step = stream::work(&mut self.endpoint, number)?;
         let seen = seen(alloc, &self.endpoint, number, step)?;
         Ok(StreamAct::Work(seen))
     }
 
-    fn break_link(&mut self, number: u8) -> Result<StreamAct<Bytes<A>>, Failure>
+    fn break_link(&mut self, number: u32) -> Result<StreamAct<Bytes<A>>, Failure>
         requires { has_stream self.old.endpoint number ≡ true }
         ensures rule { IfOk result (λ act. EndRule self.old.endpoint (Act.Stream number act)) }
         ensures call { IfOk result (λ act. stream_call_of act ≡ StreamCall.Break) }
         ensures state { IfOk result (λ act. self.new ≡ end_after self.old (Act.Stream number act)) }
         ensures failure { IfErr result (λ failure. failure ≡ Failure.NoMemory) }
     {
-        stream::break_link(&mut self.endpoint, u32::from(number));
+        stream::break_link(&mut self.endpoint, number);
         Ok(StreamAct::Break)
     }
 }
@@ -301,7 +301,7 @@ fn number_of(first: u32, place: u64) -> u32
 fn seen<A: Allocator + Copy>(
     alloc: A,
     endpoint: &Endpoint<A>,
-    number: u8,
+    number: u32,
     step: Step<Octets<A>>,
 ) -> Result<Seen<Bytes<A>>, AllocError>
     requires { has_stream endpoint.now number ≡ true }
@@ -365,11 +365,11 @@ fn received<A: Allocator + Copy>(
 }
 
 // The word of IRD and ORD in the peer's start-up frame.
-fn peers_word<A: Allocator>(endpoint: &Endpoint<A>, number: u8) -> Option<EnhancedData>
+fn peers_word<A: Allocator>(endpoint: &Endpoint<A>, number: u32) -> Option<EnhancedData>
     requires { has_stream endpoint.now number ≡ true }
     ensures { result ≡ told_at endpoint.now number }
 {
-    match endpoint.told(u32::from(number)) {
+    match endpoint.told(number) {
         Ok(told) => told,
         Err(_) => unreachable!(),
     }
@@ -379,12 +379,12 @@ fn peers_word<A: Allocator>(endpoint: &Endpoint<A>, number: u8) -> Option<Enhanc
 fn peers_private<A: Allocator + Copy>(
     alloc: A,
     endpoint: &Endpoint<A>,
-    number: u8,
+    number: u32,
 ) -> Result<Bytes<A>, AllocError>
     requires { has_stream endpoint.now number ≡ true }
     ensures { IfOk result (λ private. private ≡ private_at endpoint.now number) }
 {
-    match endpoint.private(u32::from(number)) {
+    match endpoint.private(number) {
         Ok(private) => Bytes::copy_from_slice(alloc, private),
         Err(_) => unreachable!(),
     }

@@ -26,14 +26,11 @@ pub(crate) struct Host<A: Allocator = Global> {
 }
 
 impl<A: Allocator> Model for Host<A> {
-    ghost use Rattle.std.specs.Prelude.{◌≡◌, length};
     ghost use Rattle.iw_laws.specs.Rules.{EndState};
 
     ghost Value = { EndState };
 
     ghost view = { λ h. record { endpoint = h.endpoint; wires = h.wires.items } };
-
-    ghost invariant = { λ h. length h.wires.items ≡ 64 };
 }
 
 impl<A: Allocator + Copy> Host<A> {
@@ -52,14 +49,14 @@ impl<A: Allocator + Copy> Host<A> {
     }
 
     /// Whether a stream was opened under this number.
-    pub(crate) fn has_stream(&self, number: u8) -> bool
+    pub(crate) fn has_stream(&self, number: u32) -> bool
         ensures there { result ≡ has_stream self.now.endpoint number }
     {
-        self.endpoint.sent(u32::from(number)).is_ok()
+        self.endpoint.sent(number).is_ok()
     }
 
     /// What the stream of this number emitted; nothing if none was opened.
-    pub(crate) fn wire(&self, number: u8) -> &[u8]
+    pub(crate) fn wire(&self, number: u32) -> &[u8]
         ensures { result.now ≡ wire_at self.now number }
     {
         match self.wires.get(number as usize) {
@@ -113,7 +110,7 @@ impl<A: Allocator + Copy> Host<A> {
                 private,
             } => self.open_shared(*stream, *pd, *role, *options, private),
             Call::Stream { stream, call } => {
-                let act = self.act_on(alloc, peer, *stream, call)?;
+                let act = self.act_on(alloc, peer, u32::from(*stream), call)?;
                 Ok(Act::Stream {
                     stream: *stream,
                     act,

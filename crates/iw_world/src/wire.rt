@@ -47,7 +47,7 @@ impl<A: Allocator + Copy> Wire<A> {
         &mut self,
         alloc: A,
         endpoint: &mut Endpoint<A>,
-        number: u8,
+        number: u32,
     ) -> Result<Shown<Bytes<A>>, Failure>
         requires there { has_stream endpoint.old number ≡ true }
         requires short { IsShort (stream_at endpoint.old number) }
@@ -65,7 +65,7 @@ impl<A: Allocator + Copy> Wire<A> {
 fn emit_to<A: Allocator + Copy>(
     alloc: A,
     endpoint: &mut Endpoint<A>,
-    number: u8,
+    number: u32,
     wire: &mut Vec<u8, A>,
 ) -> Result<Shown<Bytes<A>>, Failure>
     requires there { has_stream endpoint.old number ≡ true }
@@ -84,7 +84,7 @@ fn emit_to<A: Allocator + Copy>(
 // Emits what is due at a stream, and appends it to these octets.
 fn emission<A: Allocator + Copy>(
     endpoint: &mut Endpoint<A>,
-    number: u8,
+    number: u32,
     wire: &mut Vec<u8, A>,
 ) -> Result<Emission, Failure>
     requires there { has_stream endpoint.old number ≡ true }
@@ -94,7 +94,7 @@ fn emission<A: Allocator + Copy>(
     ensures wire { OnOk result (wire.new.items ≡ wire.old.items ++ emitted_at endpoint.old number) }
     ensures failure { IfErr result (λ failure. failure ≡ Failure.NoMemory) }
 {
-    match endpoint.emit(u32::from(number), wire) {
+    match endpoint.emit(number, wire) {
         Ok(emission) => Ok(emission),
         Err(CallRefusal::Refused(_)) => Err(Failure::NoMemory),
         Err(CallRefusal::NoSuchStream) => unreachable!(),

@@ -1,16 +1,10 @@
-use Rattle.std.proofs.Common.{◌≡◌, ◌++◌, ◌∷◌, [], ap, ◌∙◌, sym, length, replicate, arith}
-use Rattle.std.proofs.lemmas.List.{length-replicate}
+use Rattle.std.proofs.Common.{◌≡◌, ◌++◌, ◌∷◌, [], ap, ◌∙◌, sym, replicate, arith}
 use Rattle.iw_laws.specs.Rules.{no_wires}
 use Rattle.iw_laws.proofs.Lists.{replicate-push}
 use Rattle.iw_world.proofs.host.Host.new.Goals as goal
 
 pub loop-i-preserved : goal.loop-i-preserved
 loop-i-preserved g c = c.in_ok-push.ensures.items ∙ (λ i. c.loop-i.invariant i ++ c.new.ensures i ∷ []) ∙ sym (replicate-push c.loop-i._i [])
-
-pub invariant_of-result : goal.invariant_of-result
-invariant_of-result g c =
-    let full : c.loop-i._i ≡ 64 = omega arith in
-    ap length c.loop-i.invariant ∙ length-replicate c.loop-i._i [] ∙ full
 
 pub returns : goal.returns
 unfolding no_wires
