@@ -4,4 +4,6 @@
 #[cfg(test)]
 mod programs;
 #[cfg(test)]
+mod servings;
+#[cfg(test)]
 mod worlds;

@@ -1,0 +1,183 @@
+//! Runs of two ends that serve any number of connections.
+use bytes::Bytes;
+use iw_events::{
+    Call, End, Establishment, Options, Request, Role, Seen, ServerAct, ServerCall, ServerEntry,
+    ServerEvent, StreamAct, StreamCall,
+};
+use iw_octets::Message;
+use iw_world::{World, WorldFault};
+use std::alloc::Global;
+use std::fmt::Write;
+use std::test::Fail;
+
+// How many connections come and go.
+const CONNECTIONS: u32 = 100;
+
+// A frame of a Send of one octet, with neither markers nor a CRC.
+const FRAME: u64 = 28;
+
+// More events than any of these runs has.
+const MOST_EVENTS: usize = 10_000;
+
+fn event(end: End, call: ServerCall<Bytes>) -> ServerEvent<Bytes> {
+    ServerEvent { end, call }
+}
+
+fn on(end: End, stream: u32, call: StreamCall<Bytes>) -> ServerEvent<Bytes> {
+    event(end, ServerCall::Stream { stream, call })
+}
+
+fn domain(end: End) -> ServerEvent<Bytes> {
+    event(end, ServerCall::Plain(Call::Domain { pd: 1 }))
+}
+
+fn opening(end: End) -> ServerEvent<Bytes> {
+    let options = Options {
+        markers: false,
+        crc: false,
+        establishment: Establishment::Plain,
+    };
+    event(
+        end,
+        ServerCall::OpenNext {
+            pd: 1,
+            role: Role::Preset,
+            options,
+            private: Bytes::new(),
+        },
+    )
+}
+
+fn send(alloc: Global) -> Result<Request<Bytes>, Fail> {
+    Ok(Request::Message(Message::Send {
+        octets: Bytes::copy_from_slice(alloc, b"h")?,
+        solicited: false,
+        invalidate: None,
+    }))
+}
+
+// A Send goes from `a` to `b` on a stream.
+fn exchange(alloc: Global, stream: u32, events: &mut Vec<ServerEvent<Bytes>>) -> Result<(), Fail> {
+    let message = send(alloc)?;
+    events.push(on(End::B, stream, StreamCall::Recv { len: 1 }))?;
+    events.push(on(End::A, stream, StreamCall::Post { message }))?;
+    events.push(on(End::A, stream, StreamCall::Emit))?;
+    events.push(on(
+        End::B,
+        stream,
+        StreamCall::Deliver {
+            from: 0,
+            len: FRAME,
+        },
+    ))?;
+    events.push(on(End::B, stream, StreamCall::Work))?;
+    events.push(on(End::B, stream, StreamCall::Work))?;
+    Ok(())
+}
+
+// The link of a stream breaks at an end, which hands back what was posted and closes the stream.
+fn ending(end: End, stream: u32, events: &mut Vec<ServerEvent<Bytes>>) -> Result<(), Fail> {
+    events.push(on(end, stream, StreamCall::Break))?;
+    events.push(on(end, stream, StreamCall::Work))?;
+    events.push(event(end, ServerCall::Close { stream }))?;
+    Ok(())
+}
+
+fn domains(alloc: Global) -> Result<Vec<ServerEvent<Bytes>>, Fail> {
+    let mut events = Vec::new(alloc);
+    events.push(domain(End::A))?;
+    events.push(domain(End::B))?;
+    Ok(events)
+}
+
+// What is told of openings, of messages that came and of closings.
+fn told(alloc: Global, trace: &[ServerEntry<Bytes>]) -> Result<String, Fail> {
+    let mut text = String::new(alloc);
+    for entry in trace {
+        match &entry.act {
+            ServerAct::OpenNext {
+                answer: Ok(number),
+                ..
+            } => writeln!(text, "open {number}")?,
+            ServerAct::Stream {
+                stream,
+                act: StreamAct::Work(Seen::Received { .. }),
+            } => writeln!(text, "received {stream}")?,
+            ServerAct::Close {
+                stream,
+                refused: None,
+            } => writeln!(text, "close {stream}")?,
+            ServerAct::Close { stream, .. } => writeln!(text, "open still {stream}")?,
+            _ => {}
+        }
+    }
+    Ok(text)
+}
+
+const MIDDLE: &str = "open 64
+open 64
+open 65
+open 65
+open still 64
+close 64
+received 65
+open 66
+";
+
+// One stream is closed in the midst of the others. Its number is not given again.
+#[test]
+fn a_stream_is_closed_in_the_middle(rt: HostRuntime) -> Result<(), Fail> {
+    let alloc = rt.alloc();
+    let mut events = domains(alloc)?;
+    for _i in 0..2u32 {
+        events.push(opening(End::A))?;
+        events.push(opening(End::B))?;
+    }
+    events.push(event(End::A, ServerCall::Close { stream: 64 }))?;
+    ending(End::A, 64, &mut events)?;
+    exchange(alloc, 65, &mut events)?;
+    events.push(opening(End::A))?;
+    assert!(rt; events.len() <= MOST_EVENTS);
+    let trace = World::serve(alloc, &events)?;
+    assert_eq!(rt; told(alloc, &trace)?.as_str(), MIDDLE);
+    Ok(())
+}
+
+// Connections come and go: each has the next number at both ends, and leaves nothing.
+#[test]
+fn connections_come_and_go(rt: HostRuntime) -> Result<(), Fail> {
+    let alloc = rt.alloc();
+    let mut events = domains(alloc)?;
+    let mut wanted = String::new(alloc);
+    for stream in 64..64 + CONNECTIONS {
+        events.push(opening(End::A))?;
+        events.push(opening(End::B))?;
+        exchange(alloc, stream, &mut events)?;
+        ending(End::A, stream, &mut events)?;
+        ending(End::B, stream, &mut events)?;
+        write!(
+            wanted,
+            "open {stream}\nopen {stream}\nreceived {stream}\nclose {stream}\nclose {stream}\n"
+        )?;
+    }
+    assert!(rt; events.len() <= MOST_EVENTS);
+    let trace = World::serve(alloc, &events)?;
+    assert_eq!(rt; told(alloc, &trace)?.as_str(), wanted.as_str());
+    Ok(())
+}
+
+// No call names a stream that was closed. The fault has the number of the event.
+#[test]
+fn a_closed_stream_has_nothing_to_do(rt: HostRuntime) -> Result<(), Fail> {
+    let alloc = rt.alloc();
+    let mut events = domains(alloc)?;
+    events.push(opening(End::A))?;
+    ending(End::A, 64, &mut events)?;
+    events.push(on(End::A, 64, StreamCall::Work))?;
+    assert!(rt; events.len() <= MOST_EVENTS);
+    assert_eq!(rt;
+        World::serve(alloc, &events).err(),
+        Some(WorldFault::NoSuchStream(7))
+    );
+    Ok(())
+}
