@@ -107,9 +107,9 @@ enum {
     IWARP_NO_SUCH_STREAM = 5, /* no stream was opened under this number, or it was closed */
     IWARP_NO_REGION = 6, /* the STag names no region */
     IWARP_OUTSIDE = 7, /* not all the octets lie in the region */
-    IWARP_BAD_DOMAIN = 8, /* 0, or a number above 255, is not a domain's number */
+    IWARP_BAD_DOMAIN = 8, /* a domain that is added has a number from 1 to 255 (other calls: IWARP_NO_DOMAIN) */
     IWARP_DOMAIN_TAKEN = 9,
-    IWARP_NO_DOMAIN = 10, /* the domain was not added */
+    IWARP_NO_DOMAIN = 10, /* the domain was not added, or none can have this number */
     IWARP_DOMAIN_FULL = 11, /* it has 1,024 regions */
     IWARP_REGION_TOO_LONG = 12, /* more than 16,777,216 octets */
     IWARP_BASE_WRAP = 13, /* base + n is above 2^64 */
@@ -280,10 +280,10 @@ enum {
 };
 
 /* Opens a stream in a domain under a number from 0 to 63, which no later stream of this handle can have. `options` is a
- * sum of IWARP_MARKERS, IWARP_CRC and so on. The private data goes into an initiator's MPA Request; other
- * roles do not use it. With IWARP_ENHANCED an initiator's Request has revision 2, and a responder takes a Request of
- * revision 1 or 2 and answers in kind; without it both ends have revision 1 alone. Peers such as Linux's ask by
- * revision 2.
+ * sum of IWARP_MARKERS, IWARP_CRC and so on. The private data goes into an initiator's MPA Request; other roles do not use
+ * it, but more than 512 octets are refused at each. With IWARP_ENHANCED an initiator's Request has revision 2, and a
+ * responder takes a Request of revision 1 or 2 and answers in kind; without it both ends have revision 1 alone. Peers such
+ * as Linux's ask by revision 2.
  *
  * With IWARP_PEER_TO_PEER too, the Request asks for the peer-to-peer model: the first frame that this end emits once the
  * stream is open is the RTR, by which the responder may send before the initiator posts anything. The RTR is no posting:
@@ -299,7 +299,8 @@ int32_t iwarp_open_next(struct iwarp *handle, uint32_t pd, uint32_t role, uint32
                         size_t n, uint32_t *stream);
 
 /* Accepts the pending MPA Request, with this private data in the Reply. `*agreed` is a sum of IWARP_SENDS_MARKERS and
- * so on. */
+ * so on. Messages may be posted from then on; but behind the Reply a responder emits nothing before the initiator's first frame had
+ * its turn (RFC 5044 7.1.2). */
 int32_t iwarp_accept(struct iwarp *handle, uint32_t stream, const uint8_t *private_data, size_t n, uint32_t *agreed);
 
 /* Rejects the pending MPA Request, with this private data in the Reply. The stream has then ended; the Reply is still
@@ -343,8 +344,8 @@ int32_t iwarp_break(struct iwarp *handle, uint32_t stream);
 
 /* Forgets a stream and frees its memory. The stream must be at rest: it has ended, iwarp_work reports IWARP_IDLE, and
  * iwarp_emit IWARP_NOTHING; iwarp_break drops what is left to emit. What it handed back and was not fetched is freed. Its
- * number stays taken: a later call on it returns IWARP_NO_SUCH_STREAM, but iwarp_fetch, iwarp_fetch_buffer and
- * iwarp_fetch_sent fetch nothing. */
+ * number stays taken: a later call on it returns IWARP_NO_SUCH_STREAM. The tables in which streams are found keep room for as many
+ * as were open at once, some 125 octets for each, until iwarp_free. */
 int32_t iwarp_close(struct iwarp *handle, uint32_t stream);
 
 /* Sets the maximum ULPDU of the frames that a stream emits from then on, 128 to 64,512 octets. It is 1,400 at first. */
@@ -460,7 +461,8 @@ enum {
     IWARP_ASKED = 4, /* the peer's MPA Request came: accept or reject it; iwarp_told tells what it asks for */
     IWARP_OPENED = 5, /* the peer accepted: `flags`, IWARP_SENDS_MARKERS and so on; `len` Reads may be outstanding */
     IWARP_CLOSED_BY_PEER = 6, /* the peer's start-up frame has ended the stream: `code`, IWARP_BAD_KEY and so on */
-    IWARP_PLACED = 7, /* `len` octets were placed in region `stag` at `to`, by `right`: IWARP_WRITE or IWARP_SINK */
+    IWARP_PLACED = 7, /* `len` octets were placed in region `stag` at `to`, by `right`: IWARP_WRITE or IWARP_SINK. With 0 octets
+                       * nothing is checked or touched, and there may be no such region */
     IWARP_BUFFERED = 8, /* `len` octets of Send `msn` were placed in its buffer, at offset `mo` */
     IWARP_REQUESTED = 9, /* the peer asked to read `len` octets of region `stag` at `to` */
     IWARP_PASSED = 10, /* a frame had its turn */
@@ -530,7 +532,7 @@ int32_t iwarp_fetch_sent(struct iwarp *handle, uint32_t stream, struct iwarp_buf
 enum {
     IWARP_NOTHING = 0, /* nothing is due */
     IWARP_FRAME = 1, /* a frame, whose first octet has the stream place `from` */
-    IWARP_FETCHED = 2, /* the same of a Read Response, with `n` octets of region `stag` at `to` */
+    IWARP_FETCHED = 2, /* the same of a Read Response, with `n` octets of region `stag` at `to`. With 0 there may be no such region */
     IWARP_DENIED = 3 /* no frame: the peer may not read that, and the stream has ended by a fault, `layer`, `error`, `code` */
 };
 

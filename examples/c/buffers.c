@@ -101,6 +101,7 @@ static void sends(void) {
     CHECK(iwarp_post_send_buffer(&end, stream + 1, &buffer, 0, 0, 1) == IWARP_NO_SUCH_STREAM && has(LENGTH));
     CHECK(iwarp_post_write_buffer(&end, stream, 7, 0, &none, 1) == IWARP_BUFFER_MISSING);
     CHECK(iwarp_fetch_sent(&end, stream, &none) == IWARP_BUFFER_MISSING);
+    CHECK(iwarp_fetch_sent(&end, stream + 1, &buffer) == IWARP_NO_SUCH_STREAM && has(LENGTH));
     CHECK(iwarp_post_send_buffer(&end, stream, &buffer, 0, 0, 1) == IWARP_OK && has(0));
     CHECK(iwarp_post_send(&end, stream, &octet, 1, 0, 0, 2) == IWARP_OK);
     do CHECK(iwarp_emit_onto(&end, stream, &frames, &emission) == IWARP_OK);
@@ -258,7 +259,10 @@ static void lends_at_once(void) {
 static void receives(void) {
     struct iwarp_event event;
     uint32_t found = 2;
-    size_t n = 0;
+    uint8_t octet = 0;
+    size_t n = 1;
+    CHECK(iwarp_fetch(&end, STREAM + 1, &octet, 1, &n) == IWARP_NO_SUCH_STREAM && n == 1);
+    CHECK(iwarp_fetch_buffer(&end, STREAM + 1, &buffer, &n) == IWARP_NO_SUCH_STREAM && n == 1 && has(LENGTH));
     CHECK(iwarp_post_recv_buffer(&end, STREAM, &none) == IWARP_BUFFER_MISSING);
     CHECK(iwarp_post_recv_buffer(&end, STREAM, &buffer) == IWARP_OK && has(0));
     CHECK(iwarp_break(&end, STREAM) == IWARP_OK);

@@ -83,6 +83,14 @@ static int answered(int32_t code) {
 
 static void keeps_out(int done) { CHECK(done || memcmp(out, before, sizeof out) == 0); }
 
+/* A call answers IWARP_NO_SUCH_STREAM just if the handle is open, the buffer that it takes was made, and there is no such stream. */
+static int fetched(int32_t code, struct iwarp *handle, uint32_t stream, int is_made) {
+    uint32_t life;
+    int there = iwarp_state(handle, stream, &life) != IWARP_NO_SUCH_STREAM;
+    CHECK((code == IWARP_NO_SUCH_STREAM) == (is_made && !there));
+    return answered(code);
+}
+
 static size_t has(struct iwarp_buffer *buffer, uint8_t **at) {
     size_t n = MARK;
     *at = 0;
@@ -368,7 +376,8 @@ static void call_octets(struct iwarp *handle, struct iwarp *other, struct iwarp_
         takes(answered(iwarp_post_write_buffer(handle, stream, any_stag(), any_place(), buffer, chance())), buffer, had, at);
         return;
     case 16:
-        if (!answered(iwarp_fetch_sent(handle, stream, buffer))) CHECK(has(buffer, &later) == had && later == at);
+        if (!fetched(iwarp_fetch_sent(handle, stream, buffer), handle, stream, had != MARK))
+            CHECK(has(buffer, &later) == had && later == at);
         return;
     case 13:
         call_room(handle, stream);
@@ -412,10 +421,11 @@ static void call_octets(struct iwarp *handle, struct iwarp *other, struct iwarp_
         if (!answered(iwarp_deliver(handle, stream, below(3) ? below(400) : chance(), given, len, &kept))) CHECK(kept == MARK);
         return;
     case 9:
-        keeps_out(answered(iwarp_fetch(handle, stream, out, len, &n)));
+        keeps_out(fetched(iwarp_fetch(handle, stream, out, len, &n), handle, stream, 1));
         return;
     case 10:
-        if (!answered(iwarp_fetch_buffer(handle, stream, buffer, &n))) CHECK(n == MARK && has(buffer, &later) == had && later == at);
+        if (!fetched(iwarp_fetch_buffer(handle, stream, buffer, &n), handle, stream, had != MARK))
+            CHECK(n == MARK && has(buffer, &later) == had && later == at);
         return;
     default:
         if (answered(below(2) ? iwarp_work(handle, stream, &event) : iwarp_work_on(handle, stream, &event)))
@@ -699,6 +709,7 @@ static void finish(struct sender *sender) {
     } while (event.kind != IWARP_IDLE);
     MUST(iwarp_close(&sender->end, STREAM));
     CHECK(iwarp_close(&sender->end, STREAM) == IWARP_NO_SUCH_STREAM);
+    CHECK(iwarp_fetch_sent(&sender->end, STREAM, &sender->buffer) == IWARP_NO_SUCH_STREAM);
     iwarp_buffer_free(&sender->buffer);
     iwarp_buffer_free(&sender->frames);
     iwarp_free(&sender->end);

@@ -141,8 +141,6 @@ impl Received {
 }
 
 /// ## Work, and what is handed back
-///
-/// The calls that fetch do not look whether there is a stream of that number: where none is, they fetch nothing.
 impl Handle {
     /// Does one step at a stream. Call it until it answers [`Event::Idle`]: after octets came, after some were emitted, and after
     /// [`break_link`](Handle::break_link). [`work_on`](Handle::work_on) leaves out the steps that only tell how far the stream has
@@ -168,7 +166,7 @@ impl Handle {
     }
 
     /// Copies the message or buffer that was told last on this stream to the front of `out`, and forgets it. Returns how many octets
-    /// it has; 0 if there is none. Errors: `NoRoom`: it can still be fetched.
+    /// it has; 0 if there is none. Errors: `NoSuchStream`; `NoRoom`: it can still be fetched.
     pub fn fetch(&mut self, stream: Stream, out: &mut [u8]) -> Result<usize> {
         let mut n = 0;
         let (at, room) = (out.as_mut_ptr(), out.len());
@@ -178,7 +176,7 @@ impl Handle {
         Ok(n)
     }
 
-    /// The same, into a vector of the message's length. Errors: `NoMemory`: it can still be fetched.
+    /// The same, into a vector of the message's length. Errors: `NoSuchStream`; `NoMemory`: it can still be fetched.
     pub fn fetch_vec(&mut self, stream: Stream) -> Result<Vec<u8>> {
         match self.fetch(stream, &mut []) {
             Err(Error::NoRoom { needed }) => {
@@ -196,7 +194,7 @@ impl Handle {
     /// Gives the message or buffer that was told last on this stream, with nothing copied, and forgets it. If there is none, the
     /// buffer has no octets.
     ///
-    /// Errors: `NoMemory` if there is none for the buffer's own few octets: it can still be fetched.
+    /// Errors: `NoSuchStream`; `NoMemory` if there is none for the buffer's own few octets: it can still be fetched.
     pub fn fetch_buffer(&mut self, stream: Stream) -> Result<Received> {
         let mut len = 0;
         let buffer = self.get(|handle, buffer| {
@@ -209,7 +207,7 @@ impl Handle {
     /// Gives the octets of the message that [`Event::Done`] or [`Event::Flushed`] told last on this stream, if it was posted from a
     /// buffer, and forgets them. If it was not, or they were fetched, the buffer has no octets. Fetch them before the next is told.
     ///
-    /// Errors: `NoMemory`: they can still be fetched.
+    /// Errors: `NoSuchStream`; `NoMemory`: they can still be fetched.
     pub fn fetch_sent(&mut self, stream: Stream) -> Result<Buffer> {
         self.get(|handle, buffer| {
             // SAFETY: handle and buffer are as the last calls on them left them.

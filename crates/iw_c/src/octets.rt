@@ -5,12 +5,12 @@ ghost use Rattle.iw_endpoint.specs.Endpoint.{with_first, delivery_at, after_deli
 ghost use Rattle.iw_handle.specs.Events.{flag, kept_number, emitted_of, IsFrame};
 ghost use Rattle.iw_handle.specs.Refusals.{code_of, refusal_code};
 ghost use Rattle.iw_handle.specs.State.{called_on, refusal_in, changed, told_in, shown_in, stream_refusal};
-ghost use Rattle.iw_handle.specs.State.{copy_refusal, filled, length_told};
+ghost use Rattle.iw_handle.specs.State.{filled, length_told};
 ghost use Rattle.iw_handle.specs.Streams.{refusal_to_work, refusal_to_emit, refusal_to_go_on, due_shown, wants_write, progress_at};
 ghost use Rattle.iw_handle.specs.Steps.{TellsOn};
 ghost use Rattle.iw_handle.specs.declared.working.TheConstants.{QUIET_STEPS};
-ghost use Rattle.iw_handle.specs.Streams.{first_refusal, BringsAt, TriesAt, worked, event_in, handed_in, fetched};
-ghost use Rattle.iw_handle.specs.declared.refusal.Refusal.TheVariants.{Closed};
+ghost use Rattle.iw_handle.specs.Streams.{first_refusal, BringsAt, TriesAt, worked, event_in};
+ghost use Rattle.iw_handle.specs.Streams.{handed_in, refusal_to_fetch, fetched};
 
 use iw_handle::{Emitted, Event, Handle, Progress, code, kept_number};
 use std::alloc::Global;
@@ -109,8 +109,7 @@ pub extern "C" fn iwarp_fetch(
     out: &mut [u8],
     len: &mut usize,
 ) -> i32
-    ensures code { result ≡ pos (code_of
-        (copy_refusal (handed_in handle.old.state number) Closed (length out.old))) }
+    ensures code { result ≡ pos (code_of (refusal_to_fetch handle.old.state number (length out.old))) }
     ensures len { len.new ≡ length_told (handed_in handle.old.state number) len.old }
     ensures octets { result ≡ pos 0 → out.new ≡ filled (handed_in handle.old.state number) out.old }
     ensures kept { result ≢ pos 0 → out.new ≡ out.old }

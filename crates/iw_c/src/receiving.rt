@@ -1,11 +1,11 @@
 // Receive buffers that change hands with no copy.
-ghost use Rattle.std.specs.Prelude.{◌≡◌, ◌≢◌, ◌⊎◌, pos, None, Some, [], length, is_some, unwrap_or, IfSome, IfNone};
+ghost use Rattle.std.specs.Prelude.{◌≡◌, ◌≢◌, ◌⊎◌, pos, Some, [], length, is_some, unwrap_or, IfSome, IfNone};
 ghost use Rattle.std.specs.Option.{option_map};
 ghost use Rattle.iw_endpoint.specs.Endpoint.{with_buffer, pooled, taken_at, after_take};
 ghost use Rattle.iw_handle.specs.Events.{flag};
 ghost use Rattle.iw_handle.specs.Pools.{refusal_to_pool, refusal_to_take};
 ghost use Rattle.iw_handle.specs.Refusals.{code_of, refusal_code};
-ghost use Rattle.iw_handle.specs.State.{refusal_with, changed, told_in};
+ghost use Rattle.iw_handle.specs.State.{refusal_with, changed, told_in, stream_refusal};
 ghost use Rattle.iw_handle.specs.Streams.{refusal_to_lend, fetched};
 ghost use Rattle.iw_handle.specs.Words.{domain_number};
 ghost use Rattle.iw_lines.specs.Lines.{line_at};
@@ -24,7 +24,8 @@ pub extern "C" fn iwarp_fetch_buffer(
     buffer: &mut Buffer,
     n: &mut usize,
 ) -> i32
-    ensures code { result ≡ pos (code_of (refusal_with handle.old.state buffer.old.state (λ e octets. None))) }
+    ensures code { result ≡ pos (code_of (refusal_with handle.old.state buffer.old.state
+        (λ e octets. stream_refusal e number))) }
     ensures octets { result ≡ pos 0 → buffer.new.state ≡ option_map
         (λ held. (line_at held.lines number).handed.buffer) handle.old.state }
     ensures len { result ≡ pos 0 → Some n.new ≡ option_map

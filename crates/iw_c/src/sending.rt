@@ -3,7 +3,7 @@ ghost use Rattle.std.specs.Prelude.{◌≡◌, ◌≢◌, ◌⊎◌, pos, None, 
 ghost use Rattle.iw_octets.specs.Stag.{stag_of};
 ghost use Rattle.iw_handle.specs.Refusals.{refusal_code};
 ghost use Rattle.iw_handle.specs.Sending.{posted_from, sent_in, with_sent_in, HasKeptIn};
-ghost use Rattle.iw_handle.specs.State.{refusal_with};
+ghost use Rattle.iw_handle.specs.State.{refusal_with, stream_refusal};
 ghost use Rattle.iw_handle.specs.Streams.{refusal_to_post, refusal_to_send, sent, write_of};
 ghost use Rattle.iw_handle.specs.Words.{bits_refusal};
 
@@ -84,9 +84,9 @@ pub extern "C" fn iwarp_fetch_sent(
     number: u32,
     buffer: &mut Buffer,
 ) -> i32
-    ensures refused { IfSome (refusal_with handle.old.state buffer.old.state (λ e octets. None))
+    ensures refused { IfSome (refusal_with handle.old.state buffer.old.state (λ e octets. stream_refusal e number))
         (λ r. result ≡ pos (refusal_code r)) }
-    ensures memory { IfNone (refusal_with handle.old.state buffer.old.state (λ e octets. None))
+    ensures memory { IfNone (refusal_with handle.old.state buffer.old.state (λ e octets. stream_refusal e number))
         ((result ≡ pos 0) ⊎ (result ≡ pos 3)) }
     ensures octets { result ≡ pos 0 → buffer.new.state ≡ sent_in handle.old.state number }
     ensures ok { result ≡ pos 0 → handle.new.state ≡ with_sent_in handle.old.state number [] }

@@ -29,7 +29,7 @@ use Rattle.iw_handle.specs.declared.refusal.Refusal.{Refusal}
 use Rattle.iw_handle.specs.declared.refusal.Refusal.TheVariants as refusals
 use Rattle.iw_handle.specs.Events.{event_at, emitted_of}
 use Rattle.iw_handle.specs.Refusals.{open_reason, answer_reason, post_reason, recv_reason, first_reason, size_reason}
-use Rattle.iw_handle.specs.State.{State, first_of, stream_refusal, room_refusal, length_refusal}
+use Rattle.iw_handle.specs.State.{State, first_of, stream_refusal, room_refusal, length_refusal, copy_refusal}
 use Rattle.iw_handle.specs.Words.{role_refusal, role_in, config_of, private_refusal, config_refusal, bits_refusal, has_bit, invalidated_by}
 
 -- ---- refusals
@@ -125,9 +125,19 @@ worked state number = option_map (λ held. held_worked held number) state
 abbrev pub event_in : Held → ℕ → Event
 event_in held number = event_at (oldest_token (line_at held.lines number)) (step_at held.endpoint number)
 
--- the octets that a stream handed back and that were not fetched yet
+-- the octets that a stream handed back and that were not fetched yet, if there is such a stream
+abbrev pub handed_at : Held → ℕ → Option (List ℕ)
+handed_at held number =
+    if has_stream held.endpoint number then Some (told_of (line_at held.lines number).handed) else None
+
 abbrev pub handed_in : State → ℕ → Option (List ℕ)
-handed_in state number = option_map (λ held. told_of (line_at held.lines number).handed) state
+handed_in None number = None
+handed_in (Some held) number = handed_at held number
+
+-- why they are not copied to a buffer of `room` octets
+abbrev pub refusal_to_fetch : State → ℕ → ℕ → Option Refusal
+refusal_to_fetch None number room = Some refusals.Closed
+refusal_to_fetch (Some held) number room = copy_refusal (handed_at held number) refusals.NoSuchStream room
 
 -- they were fetched
 abbrev pub without_handed : Held → ℕ → Held

@@ -5,11 +5,11 @@ ghost use Rattle.std.specs.Option.{option_map};
 ghost use Rattle.std.specs.Result.{result_err};
 ghost use Rattle.iw_endpoint.specs.Endpoint.{with_buffer, pooled, taken_at, after_take};
 ghost use Rattle.iw_handle.specs.Pools.{refusal_to_pool, refusal_to_take};
-ghost use Rattle.iw_handle.specs.State.{refusal_with, changed, told_in};
+ghost use Rattle.iw_handle.specs.State.{refusal_with, changed, told_in, stream_refusal};
 ghost use Rattle.iw_lines.specs.Lines.{line_at};
 ghost use Rattle.iw_handle.specs.Streams.{refusal_to_lend, without_handed, fetched};
 
-use crate::copying::check_length;
+use crate::copying::{check_length, check_stream};
 use crate::handle::Handle;
 use crate::held::Held;
 use crate::refusal::{Refusal, pool_reason, recv_reason, take_reason};
@@ -18,14 +18,23 @@ use iw_endpoint::Endpoint;
 use std::alloc::Global;
 
 // Moves what a stream handed back, whole, and tells how many of its first octets are told.
-fn fetch_these(held: &mut Held, alloc: Global, number: u32, octets: &mut Vec<u8>) -> usize
-    ensures octets { octets.new.items ≡ (line_at held.old.lines number).handed.buffer }
-    ensures len { result ≡ (line_at held.old.lines number).handed.len }
-    ensures after { held.new ≡ without_handed held.old number }
+fn fetch_these(
+    held: &mut Held,
+    alloc: Global,
+    number: u32,
+    octets: &mut Vec<u8>,
+) -> Result<usize, Refusal>
+    ensures refused { result_err result ≡ stream_refusal held.old.endpoint number }
+    ensures octets { OnOk result (octets.new.items ≡ (line_at held.old.lines number).handed.buffer) }
+    ensures len { IfOk result (λ len. len ≡ (line_at held.old.lines number).handed.len) }
+    ensures ok { OnOk result (held.new ≡ without_handed held.old number) }
+    ensures err { OnErr result (held.new ≡ held.old) }
+    ensures back { OnErr result (octets.new.items ≡ octets.old.items) }
 {
+    check_stream(&held.endpoint, number)?;
     let handed = held.lines.fetch(alloc, number);
     *octets = handed.buffer.into_vec();
-    handed.len
+    Ok(handed.len)
 }
 
 // Posts the octets themselves: none are left where they were.
@@ -112,7 +121,8 @@ impl Handle {
         buffer: &mut Buffer,
         len: &mut usize,
     ) -> Result<(), Refusal>
-        ensures refused { result_err result ≡ refusal_with self.old.state buffer.old.state (λ e octets. None) }
+        ensures refused { result_err result ≡ refusal_with self.old.state buffer.old.state
+            (λ e octets. stream_refusal e number) }
         ensures octets { OnOk result
             (buffer.new.state ≡ option_map (λ held. (line_at held.lines number).handed.buffer) self.old.state) }
         ensures len { OnOk result (Some len.new ≡ option_map (λ held. (line_at held.lines number).handed.len) self.old.state) }
@@ -128,9 +138,10 @@ impl Handle {
             self.put(held);
             return Err(Refusal::NoBuffer);
         };
-        *len = fetch_these(&mut held, alloc, number, &mut lent.octets);
+        let done = fetch_these(&mut held, alloc, number, &mut lent.octets);
         self.put(held);
         buffer.put_vec(lent);
+        *len = done?;
         Ok(())
     }
 

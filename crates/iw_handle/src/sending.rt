@@ -4,10 +4,11 @@ ghost use Rattle.iw_lines.specs.Line.{with_sent};
 ghost use Rattle.iw_lines.specs.Lines.{line_at, with_line};
 ghost use Rattle.iw_handle.specs.Sending.{held_posted_from, posted_from, sent_in, held_with_sent, with_sent_in};
 ghost use Rattle.iw_handle.specs.Sending.{HasKept, HasKeptIn};
-ghost use Rattle.iw_handle.specs.State.{refusal_with};
+ghost use Rattle.iw_handle.specs.State.{refusal_with, stream_refusal};
 ghost use Rattle.iw_handle.specs.Streams.{refusal_to_post, refusal_to_send, send_of, sent, write_of};
 ghost use Rattle.iw_handle.specs.Words.{bits_refusal};
 
+use crate::copying::check_stream;
 use crate::handle::Handle;
 use crate::held::Held;
 use crate::posting::reason_of;
@@ -199,12 +200,15 @@ fn fetch_these(
     number: u32,
     octets: &mut Contents,
 ) -> Result<(), Refusal>
-    ensures memory { IfErr result (λ e. e ≡ Refusal.NoMemory) }
+    // The first refusal that applies; if none does, only `NoMemory`.
+    ensures refused { IfSome (stream_refusal held.old.endpoint number) (λ r. result ≡ Err r) }
+    ensures memory { IfNone (stream_refusal held.old.endpoint number) (IfErr result (λ e. e ≡ Refusal.NoMemory)) }
     ensures octets { OnOk result (octets.new.octets ≡ (line_at held.old.lines number).sent) }
     ensures ok { OnOk result (held.new ≡ held_with_sent held.old number []) }
     ensures err { OnErr result (held.new ≡ held.old) }
     ensures back { OnErr result (octets.new.octets ≡ octets.old.octets) }
 {
+    check_stream(&held.endpoint, number)?;
     match held.lines.fetch_sent(alloc, number, octets) {
         Ok(()) => Ok(()),
         Err(AllocError) => Err(Refusal::NoMemory),
@@ -298,8 +302,9 @@ impl Handle {
         number: u32,
         buffer: &mut Buffer,
     ) -> Result<(), Refusal>
-        ensures refused { IfSome (refusal_with self.old.state buffer.old.state (λ e octets. None)) (λ r. result ≡ Err r) }
-        ensures memory { IfNone (refusal_with self.old.state buffer.old.state (λ e octets. None))
+        ensures refused { IfSome (refusal_with self.old.state buffer.old.state (λ e octets. stream_refusal e number))
+            (λ r. result ≡ Err r) }
+        ensures memory { IfNone (refusal_with self.old.state buffer.old.state (λ e octets. stream_refusal e number))
             (IfErr result (λ e. e ≡ Refusal.NoMemory)) }
         ensures octets { OnOk result (buffer.new.state ≡ sent_in self.old.state number) }
         ensures ok { OnOk result (self.new.state ≡ with_sent_in self.old.state number []) }

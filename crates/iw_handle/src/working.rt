@@ -3,17 +3,17 @@ ghost use Rattle.std.specs.Prelude.{◌≡◌, ◌≤◌, ◌^◌, true, None, S
 ghost use Rattle.std.specs.Option.{option_map};
 ghost use Rattle.std.specs.Result.{result_err};
 ghost use Rattle.iw_endpoint.specs.Endpoint.{with_first, delivery_at, after_deliver, has_stream, point_at, step_at, after_work};
-ghost use Rattle.iw_lines.specs.Handed.{told_of};
 ghost use Rattle.iw_lines.specs.Line.{oldest_token};
 ghost use Rattle.iw_lines.specs.Lines.{line_at};
 ghost use Rattle.iw_handle.specs.Events.{event_of};
 ghost use Rattle.iw_handle.specs.State.{called_on, refusal_in, changed, told_in, stream_refusal};
 ghost use Rattle.iw_handle.specs.State.{copy_refusal, filled, length_told};
-ghost use Rattle.iw_handle.specs.Streams.{first_refusal, refusal_to_work, BringsAt, TriesAt, handed_in, fetched};
+ghost use Rattle.iw_handle.specs.Streams.{first_refusal, refusal_to_work, BringsAt, TriesAt};
+ghost use Rattle.iw_handle.specs.Streams.{handed_at, handed_in, refusal_to_fetch, fetched};
 ghost use Rattle.iw_handle.specs.Streams.{lines_by, held_worked, worked, event_in};
 ghost use Rattle.iw_handle.specs.Steps.{WorksOn};
 
-use crate::copying::copy_out;
+use crate::copying::{check_stream, copy_out};
 use crate::event::{Event, event_of, is_quiet};
 use crate::handle::Handle;
 use crate::held::Held;
@@ -170,13 +170,14 @@ fn fetch(
     out: &mut [u8],
     len: &mut usize,
 ) -> Result<(), Refusal>
-    ensures refused { result_err result ≡ copy_refusal (Some (told_of (line_at held.old.lines number).handed)) Refusal.Closed (length out.old) }
-    ensures len { len.new ≡ length (told_of (line_at held.old.lines number).handed) }
-    ensures octets { OnOk result (out.new ≡ filled (Some (told_of (line_at held.old.lines number).handed)) out.old) }
+    ensures refused { result_err result ≡ copy_refusal (handed_at held.old number) Refusal.NoSuchStream (length out.old) }
+    ensures len { len.new ≡ length_told (handed_at held.old number) len.old }
+    ensures octets { OnOk result (out.new ≡ filled (handed_at held.old number) out.old) }
     ensures kept { OnErr result (out.new ≡ out.old) }
     ensures ok { OnOk result (Some held.new ≡ fetched (Some held.old) number) }
     ensures err { OnErr result (held.new ≡ held.old) }
 {
+    check_stream(&held.endpoint, number)?;
     copy_out(held.lines.told(number), out, len)?;
     let _ = held.lines.fetch(alloc, number);
     Ok(())
@@ -271,7 +272,7 @@ impl Handle {
     }
 
     /// Copies what a stream handed back last to the front of a buffer, and forgets it. `len` becomes its length in octets,
-    /// even if it does not fit (`NoRoom`); 0 if nothing waits there. An `Err` changes nothing else.
+    /// even if it does not fit (`NoRoom`); 0 if nothing waits there. An `Err` changes nothing else. `NoSuchStream` leaves `len` too.
     pub fn fetch(
         &mut self,
         alloc: Global,
@@ -279,7 +280,7 @@ impl Handle {
         out: &mut [u8],
         len: &mut usize,
     ) -> Result<(), Refusal>
-        ensures refused { result_err result ≡ copy_refusal (handed_in self.old.state number) Refusal.Closed (length out.old) }
+        ensures refused { result_err result ≡ refusal_to_fetch self.old.state number (length out.old) }
         ensures len { len.new ≡ length_told (handed_in self.old.state number) len.old }
         ensures octets { OnOk result (out.new ≡ filled (handed_in self.old.state number) out.old) }
         ensures kept { OnErr result (out.new ≡ out.old) }

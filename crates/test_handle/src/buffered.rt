@@ -94,6 +94,13 @@ fn handed_back(rt: HostRuntime) -> Result<(), Fail> {
     assert_eq!(rt; len_of(alloc, &mut buffer)?, 0);
     handle.break_link(alloc, STREAM)?;
     handle.work(alloc, STREAM, &mut event)?;
+    buffer.free(alloc);
+    buffer.make(alloc, 3)?;
+    assert_eq!(rt;
+        handle.fetch_buffer(alloc, STREAM + 1, &mut buffer, &mut len),
+        Err(Refusal::NoSuchStream)
+    );
+    assert_eq!(rt; len_of(alloc, &mut buffer)?, 3);
     handle.fetch_buffer(alloc, STREAM, &mut buffer, &mut len)?;
     assert_eq!(rt; len, 32);
     handle.post_shared_buffer(alloc, 1, &mut buffer)?;
@@ -149,6 +156,10 @@ fn flushed(rt: HostRuntime) -> Result<(), Fail> {
     handle.post_write_buffer(alloc, STREAM, stag_of(7), 0, &mut buffer, 3)?;
     handle.break_link(alloc, STREAM)?;
     assert_eq!(rt; next_sent(&mut handle, alloc, &mut buffer)?, (3, 8));
+    assert_eq!(rt;
+        handle.fetch_sent(alloc, STREAM + 1, &mut buffer),
+        Err(Refusal::NoSuchStream)
+    );
     assert_eq!(rt;
         handle.post_write_buffer(alloc, STREAM, stag_of(7), 0, &mut buffer, 4),
         Err(Refusal::NotOpen)

@@ -10,14 +10,6 @@ fn next_event(handle: &mut Handle, alloc: Global, number: u32) -> Result<u32, Fa
     Ok(event.kind)
 }
 
-// How many octets can be fetched at a stream.
-fn fetched(handle: &mut Handle, alloc: Global, number: u32) -> Result<usize, Fail> {
-    let mut out = [0u8; 4];
-    let mut len = 9;
-    handle.fetch(alloc, number, &mut out, &mut len)?;
-    Ok(len)
-}
-
 #[test]
 fn numbers_are_given(rt: HostRuntime) -> Result<(), Fail> {
     let alloc = rt.alloc();
@@ -64,7 +56,13 @@ fn streams_are_closed(rt: HostRuntime) -> Result<(), Fail> {
         handle.close_stream(alloc, number),
         Err(Refusal::NoSuchStream)
     );
-    assert_eq!(rt; fetched(&mut handle, alloc, number)?, 0);
+    let mut out = [0u8; 4];
+    let mut len = 9;
+    assert_eq!(rt;
+        handle.fetch(alloc, number, &mut out, &mut len),
+        Err(Refusal::NoSuchStream)
+    );
+    assert_eq!(rt; len, 9);
     assert_eq!(rt; handle.open_next(alloc, 1, 0, 0, b""), Ok(65));
     Ok(())
 }
