@@ -52,6 +52,10 @@
  * A peer's mistake is never a return code: iwarp_work reports IWARP_FAULT, iwarp_emit IWARP_DENIED, or iwarp_fill
  * IWARP_FILL_DENIED, and that stream has ended.
  *
+ * A call gives work to no stream but its own: a stream at which iwarp_work reported IWARP_IDLE, and iwarp_wants_write 0 behind that,
+ * would report so again until the next call on it, whatever is done to other streams, to regions and to pools. So a program of many
+ * streams asks those that it called, and need not ask each.
+ *
  * A frame has its turn when all octets before it have been processed; messages complete only then, in order. The
  * in-order point is where the last frame that had its turn ends. A stream place is a count of octets, from the first
  * of the connection. */

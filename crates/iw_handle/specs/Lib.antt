@@ -12,3 +12,4 @@ pub mod Lending
 pub mod Limiting
 pub mod Sending
 pub mod Filling
+pub mod Elsewhere

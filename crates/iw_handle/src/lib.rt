@@ -31,7 +31,7 @@ pub use event::{
 };
 pub use handle::Handle;
 pub use held::Held;
-pub use laws::codes_are_distinct;
+pub use laws::{calls_give_work_to_their_own_stream, codes_are_distinct};
 pub use refusal::{Refusal, buffer_reason, code};
 pub use words::{domain_number, read_request, stag_of};
 pub use working::QUIET_STEPS;
