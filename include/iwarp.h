@@ -41,10 +41,10 @@
  * - The program's malloc, realloc and free are of one allocator, and align to 16.
  *
  * Each function that returns an int32_t returns IWARP_OK, or the first reason why it did nothing. If it does not return
- * IWARP_OK, the handle, the buffer and all that the call may write are as they were, with four exceptions: a length is written
+ * IWARP_OK, the handle, the buffer and all that the call may write are as they were, with five exceptions: a length is written
  * with IWARP_NO_ROOM (by iwarp_emit with IWARP_NO_MEMORY too); the steps that iwarp_work_on did before a refused one stay
- * done; a place that iwarp_room lent is taken back by the calls named above; and iwarp_post_send_buffer says what may become
- * of a buffer. IWARP_NO_MEMORY means that malloc failed; the call may be made again. A call that copies octets, or allocates a
+ * done; a place that iwarp_room lent is taken back by the calls named above; iwarp_emit_onto and iwarp_fill may leave the
+ * buffer's octets at another address; and iwarp_post_send_buffer says what may become of a buffer. IWARP_NO_MEMORY means that malloc failed; the call may be made again. A call that copies octets, or allocates a
  * receive buffer, does so first, so it may return IWARP_NO_MEMORY in place of a reason that the region, the stream or the pool
  * has; iwarp_post_send_buffer and iwarp_post_write_buffer, which allocate a few octets first, may too. Any other call that
  * takes a buffer returns it only if no other reason holds.
