@@ -1,7 +1,9 @@
 //! A server of many connections over TCP: `server COUNT [OPTIONS [PORT]]`.
 #![tactic(auto)]
 
-use iw_server::{Request, ServeFault, Sockets, Terms, USAGE, request_of, serve};
+ghost use Rattle.std.specs.Prelude.{◌≡◌, ◌≢◌};
+
+use iw_server::{Request, ServeFault, Sockets, Tally, Terms, USAGE, request_of, serve};
 use std::env;
 use std::io::{self, ErrorKind};
 use std::net::Net;
@@ -17,6 +19,25 @@ fn words<R: Runtime + AllocGlobal>(rt: &R) -> io::Result<Vec<String>> {
     Ok(words)
 }
 
+// The exit status of a server that served all its connections: 0 only if none of them failed.
+fn status_of(tally: Tally) -> u8
+    ensures completed { tally.failed ≡ 0 → result ≡ 0 }
+    ensures failed { tally.failed ≢ 0 → result ≡ 1 }
+{
+    if tally.failed == 0 { 0 } else { 1 }
+}
+
+// The exit status of a server that stopped: 2 only if memory ran out before the first connection.
+fn status_of_fault(fault: ServeFault) -> u8
+    ensures memory { fault ≡ ServeFault.NoMemory → result ≡ 2 }
+    ensures failed { fault ≢ ServeFault.NoMemory → result ≡ 1 }
+{
+    match fault {
+        ServeFault::NoMemory => 2,
+        ServeFault::Host | ServeFault::Output => 1,
+    }
+}
+
 // Serves so many connections at a port, and returns the exit status.
 fn listen<R: Runtime + AllocGlobal + Net>(
     rt: &R,
@@ -29,10 +50,10 @@ fn listen<R: Runtime + AllocGlobal + Net>(
     println!(rt; "port {bound}")?;
     let count = if count == 0 { u64::MAX } else { count };
     match serve(rt.alloc(), terms, count, &mut sockets, &mut io::writer(rt)) {
-        Ok(tally) => Ok(if tally.failed == 0 { 0 } else { 1 }),
+        Ok(tally) => Ok(status_of(tally)),
         Err(fault) => {
             eprintln!(rt; "server: {fault}")?;
-            Ok(if fault == ServeFault::NoMemory { 2 } else { 1 })
+            Ok(status_of_fault(fault))
         }
     }
 }
