@@ -44,10 +44,11 @@
  * IWARP_OK, the handle, the buffer and all that the call may write are as they were, with five exceptions: a length is written
  * with IWARP_NO_ROOM (by iwarp_emit with IWARP_NO_MEMORY too); the steps that iwarp_work_on did before a refused one stay
  * done; a place that iwarp_room lent is taken back by the calls named above; iwarp_emit_onto and iwarp_fill may leave the
- * buffer's octets at another address; and iwarp_post_send_buffer says what may become of a buffer. IWARP_NO_MEMORY means that malloc failed; the call may be made again. A call that copies octets, or allocates a
- * receive buffer, does so first, so it may return IWARP_NO_MEMORY in place of a reason that the region, the stream or the pool
- * has; iwarp_post_send_buffer and iwarp_post_write_buffer, which allocate a few octets first, may too. Any other call that
- * takes a buffer returns it only if no other reason holds.
+ * buffer's octets at another address; and iwarp_post_send_buffer says what may become of a buffer. IWARP_NO_MEMORY means that
+ * malloc failed; the call may be made again. A call that copies octets, or allocates a receive buffer, does so first, so it
+ * may return IWARP_NO_MEMORY in place of a reason that the region, the stream or the pool has; iwarp_post_send_buffer and
+ * iwarp_post_write_buffer, which allocate a few octets first, may too. Any other call that takes a buffer returns it only if
+ * no other reason holds.
  *
  * A peer's mistake is never a return code: iwarp_work reports IWARP_FAULT, iwarp_emit IWARP_DENIED, or iwarp_fill
  * IWARP_FILL_DENIED, and that stream has ended.
