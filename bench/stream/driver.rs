@@ -104,6 +104,14 @@ fn judge_rows(rows: &[Row], wanted: &mut Wanted) {
     for name in ["receiving side, plain", "receiving side, markers", "receiving side, markers and CRCs"] {
         wanted.at_least(&format!("peer's time to ours, {name}"), row(rows, name).to_peer(), 0.85);
     }
+    for (name, least) in [
+        ("reads, ULPDU 1,400, plain", 1.15),
+        ("reads, ULPDU 1,400, markers and CRCs", 1.0),
+        ("reads, ULPDU 64,512, plain", 1.3),
+        ("reads, ULPDU 64,512, markers and CRCs", 1.0),
+    ] {
+        wanted.at_least(&format!("peer's time to ours, {name}"), row(rows, name).to_peer(), least);
+    }
     wanted.at_least("two copies' time to ours, receiving side, plain", row(rows, "receiving side, plain").to_copies(), 0.42);
     for (name, without) in [
         ("start-up frames, plain", "plain"),

@@ -34,6 +34,9 @@ pub struct Load {
     pub lying: bool,
     /// Each marker of a window points to a frame of its own, which is as long as can be and never whole.
     pub cut: bool,
+    /// The receiving side reads what was emitted from memory, up to 65,536 octets at a time: right to where they are to stand, the
+    /// peer into a buffer of its own.
+    pub in_place: bool,
     /// The maximum ULPDU, in octets.
     pub mulpdu: u32,
     /// How many octets a message has.
@@ -71,6 +74,7 @@ impl Load {
         last_first: false,
         lying: false,
         cut: false,
+        in_place: false,
         mulpdu: 1_400,
         message: 16_384,
         posted: 1,

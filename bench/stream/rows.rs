@@ -42,18 +42,28 @@ fn by_turns(load: Load) -> Load {
     Load { pairs: 64, ..load }.carrying(4 << 20)
 }
 
-/// From one marker to the next without the first, a full frame without its markers, and what a frame has beside its payload, in
-/// octets.
+/// From one marker to the next without the first, a full frame of a ULPDU of 1,400 octets without its markers, and what a frame has
+/// beside its payload, in octets.
 const MARKED: usize = 508;
 const FULL_FRAME: usize = 1_408;
 const AROUND: usize = 20;
+
+/// The octets of a full frame without its markers: length field, ULPDU, pad and CRC field.
+const fn full_frame(load: Load) -> usize {
+    (2 + load.mulpdu as usize).next_multiple_of(4) + 4
+}
 
 /// Writes of so many frames, the last as long as it takes for all to have a multiple of 512 octets, markers among them: the same
 /// octets can come again behind.
 fn again(load: Load, frames: usize) -> Load {
     let full = frames - 1;
-    let last = MARKED - full * FULL_FRAME % MARKED - AROUND;
+    let last = MARKED - full * full_frame(load) % MARKED - AROUND;
     Load { message: full * load.piece() + last, batch: usize::MAX, ..load }.carrying(16 << 20)
+}
+
+/// The same frames, which are read from memory and not delivered, in ULPDUs of so many octets.
+fn read(load: Load, mulpdu: u32, frames: usize) -> Load {
+    Load { in_place: true, ..again(Load { mulpdu, ..load }, frames) }
 }
 
 /// All frames of a message are emitted, and the first is delivered last.
@@ -70,6 +80,10 @@ fn scattered(load: Load, mulpdu: u32, message: usize) -> Load {
 const FRAMES_FEW: usize = 12;
 const FRAMES_NEAR: usize = 92;
 const FRAMES_FAR: usize = 183;
+
+/// As many frames as four reads take, in ULPDUs of 1,400 octets and of 64,512.
+const FRAMES_READ: usize = 186;
+const FRAMES_READ_LONG: usize = 5;
 
 /// An order in which the frames of a message are delivered.
 struct Order {
@@ -145,6 +159,10 @@ pub fn rows() -> Vec<Row> {
         Row::receiving("receiving side, plain", again(PLAIN, FRAMES_FEW)),
         Row::receiving("receiving side, markers", again(MARKERS, FRAMES_FEW)),
         Row::receiving("receiving side, markers and CRCs", again(FRAMED, FRAMES_FEW)),
+        Row::receiving("reads, ULPDU 1,400, plain", read(PLAIN, 1_400, FRAMES_READ)),
+        Row::receiving("reads, ULPDU 1,400, markers and CRCs", read(FRAMED, 1_400, FRAMES_READ)),
+        Row::receiving("reads, ULPDU 64,512, plain", read(PLAIN, 64_512, FRAMES_READ_LONG)),
+        Row::receiving("reads, ULPDU 64,512, markers and CRCs", read(FRAMED, 64_512, FRAMES_READ_LONG)),
         Row::new("Sends, plain", sends(PLAIN)),
         Row::new("Sends, markers and CRCs", sends(FRAMED)),
         Row::new("ULPDU 128, plain", sized(PLAIN, 128, 16_384)),

@@ -5,12 +5,15 @@ use super::memory::{Memory, Stag};
 use super::send_queue::{Message, Payload};
 use super::stream::{Step, Stream};
 use crate::load::{Load, SHIFT};
+use std::hint::black_box;
 use std::mem;
 use std::sync::Arc;
 
 const DOMAIN: u8 = 1;
 const START_UP: u64 = 20;
 const MAX_STEPS: usize = 10_000;
+/// How many octets are read at a time.
+const MOST_READ: usize = 65_536;
 
 /// A frame under way: its place in the stream, and where its octets lie.
 #[derive(Clone, Copy)]
@@ -120,6 +123,8 @@ fn settle_too(stream: &mut Stream, memory: &mut Memory, spare: &mut Vec<Vec<u8>>
 struct Receiving {
     memory: Memory,
     spare: Vec<Vec<u8>>,
+    /// To which octets are read.
+    buffer: Vec<u8>,
     delivery: usize,
     too: bool,
 }
@@ -140,6 +145,18 @@ impl Receiving {
             assert!(stream.deliver(from, piece));
             placed += self.settle(stream);
             from += piece.len() as u64;
+        }
+        placed
+    }
+
+    /// Reads octets into a buffer, and delivers them from there. Tells how many octets were placed.
+    fn read_all(&mut self, stream: &mut Stream, mut from: u64, octets: &[u8]) -> u64 {
+        let mut placed = 0;
+        for part in octets.chunks(MOST_READ) {
+            self.buffer[..part.len()].copy_from_slice(black_box(part));
+            assert!(stream.deliver(from, black_box(&self.buffer[..part.len()])));
+            placed += self.settle(stream);
+            from += part.len() as u64;
         }
         placed
     }
@@ -181,6 +198,7 @@ impl<'a> Ends<'a> {
         let receiving = Receiving {
             memory,
             spare: vec![vec![0; load.message]; buffers],
+            buffer: vec![0; MOST_READ],
             delivery: load.delivery,
             too: false,
         };
@@ -256,6 +274,9 @@ impl<'a> Ends<'a> {
     /// Delivers the frames of a round again, so many octets further on.
     fn repeat(&mut self, round: u64) -> u64 {
         let further = round * self.wire.octets.len() as u64;
+        if self.load.in_place {
+            return self.receiving.read_all(&mut self.pairs[0].receiver, further, &self.wire.octets);
+        }
         self.receiving.take_all(&mut self.pairs[0].receiver, &self.wire, further)
     }
 }

@@ -3,7 +3,7 @@ use bytes::Bytes;
 use iw_memory::{Memory, Stag};
 use iw_octets::{MAX_PLACE, Message, Octets, ReadRequest};
 use iw_stream::{
-    Config, Delivery, Emission, Establishment, PrivateData, Request, Role, Step, Stream,
+    Config, Delivery, Emission, Establishment, Intake, PrivateData, Request, Role, Step, Stream,
     exceeds_request,
 };
 use iw_untagged::SharedQueue;
@@ -163,6 +163,15 @@ impl End {
         match self.stream.deliver(number, octets)? {
             Delivery::Kept => Ok(()),
             Delivery::Dropped => Err(Stop),
+        }
+    }
+
+    /// Reads once, right to where the octets are to stand. Returns whether there were any.
+    pub(crate) fn read(&mut self, from: &mut &[u8]) -> Result<bool, Stop> {
+        match self.stream.read_from(from) {
+            Ok(Intake::Came(_)) => Ok(true),
+            Ok(Intake::End) => Ok(false),
+            Ok(Intake::Full) | Err(_) => Err(Stop),
         }
     }
 

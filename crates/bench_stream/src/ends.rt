@@ -112,6 +112,21 @@ impl Receiving {
         Ok(placed)
     }
 
+    // Has an end read octets in place, and works until there is nothing to do behind each read. Returns how many octets were
+    // placed.
+    fn read_all(&mut self, end: &mut End, octets: &[u8]) -> Result<u64, Stop> {
+        let mut from = octets;
+        let mut placed = 0u64;
+        for _ in 0..MAX_FRAMES {
+            if !end.read(&mut from)? {
+                return Ok(placed);
+            }
+            let more = self.settle(end)?;
+            placed = placed.wrapping_add(more);
+        }
+        Err(Stop)
+    }
+
     // Delivers octets from place 0 on, except the first of each `gap` deliveries. Returns how many deliveries there
     // were.
     fn take_past_gaps(&mut self, end: &mut End, octets: &[u8]) -> Result<u64, Stop> {
@@ -432,6 +447,15 @@ impl Ends {
         };
         self.receiving
             .take_all(&mut pair.receiver, &self.wire, further)
+    }
+
+    /// Has the receiving end read the frames that were emitted in place, behind what came. Returns how many octets were placed.
+    pub(crate) fn read_again(&mut self) -> Result<u64, Stop> {
+        let Some(pair) = self.pairs.get_mut(0) else {
+            return Err(Stop);
+        };
+        self.receiving
+            .read_all(&mut pair.receiver, self.wire.octets())
     }
 
     /// Delivers the octets that were emitted, except those of the first of each `gap` deliveries, to a new stream.

@@ -26,6 +26,8 @@ pub struct Load {
     pub lying: bool,
     /// Each marker of a window points to a frame of its own, which is as long as possible and never whole.
     pub cut: bool,
+    /// The receiving side reads what was emitted from memory, right to where it is to stand.
+    pub in_place: bool,
     /// The maximum ULPDU, in octets.
     pub mulpdu: u32,
     /// How many octets a message has.

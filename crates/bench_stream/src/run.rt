@@ -52,7 +52,12 @@ fn receive(ends: &mut Ends, load: Load, octets: &Bytes) -> Result<u64, Stop> {
     ends.emit(octets)?;
     let mut placed = 0u64;
     for round in 0..load.rounds {
-        placed = placed.wrapping_add(ends.repeat(round as u64)?);
+        let more = if load.in_place {
+            ends.read_again()?
+        } else {
+            ends.repeat(round as u64)?
+        };
+        placed = placed.wrapping_add(more);
     }
     ends.compare(octets)?;
     Ok(placed)
