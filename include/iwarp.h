@@ -32,9 +32,9 @@
  *   call of iwarp_room, iwarp_came, iwarp_deliver, iwarp_work, iwarp_work_on, iwarp_emit, iwarp_emit_onto, iwarp_fill,
  *   iwarp_accept, iwarp_reject, iwarp_break or iwarp_close on that stream, whatever it returns, and by iwarp_free. Calls on
  *   other streams, and others on that stream, may go on meanwhile.
- * - No pointer is null, even if its count is 0. `octets` and `private_data` point to `n` octets that can be read, and
- *   that nothing writes during the call; `out` points to `room` octets that can be written. What the pointers of one
- *   call point to does not overlap.
+ * - No pointer is null, even if its count is 0: pass `iwarp_octets(p)` and `iwarp_out(p)` for a `p` that may be. `octets` and
+ *   `private_data` point to `n` octets that can be read, and that nothing writes during the call; `out` points to `room` octets
+ *   that can be written. What the pointers of one call point to does not overlap.
  * - One call at a time on a handle and on a buffer, from any thread: a call begins once the one before it has returned.
  *   Calls on several handles may go on at once.
  * - No call from a signal handler, nor from the forked child of a process that has threads.
@@ -154,6 +154,18 @@ static inline const char *iwarp_text(int32_t code) {
     const char *text;
     iwarp_text_at(code, &text);
     return text;
+}
+
+/* Returns a pointer to octets as it is, or in place of null one to no octets: for a call that reads 0 octets. */
+static inline const uint8_t *iwarp_octets(const uint8_t *octets) {
+    static const uint8_t none = 0;
+    return octets ? octets : &none;
+}
+
+/* Returns a pointer to room as it is, or in place of null one to no room: for a call that may write 0 octets. */
+static inline uint8_t *iwarp_out(uint8_t *out) {
+    static uint8_t none = 0;
+    return out ? out : &none;
 }
 
 /* ---- handles and domains */

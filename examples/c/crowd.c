@@ -114,7 +114,7 @@ static void begin(struct initiator *initiator, long number, unsigned short port)
     struct carried *carried = &initiator->carried;
     *initiator = (struct initiator){.carried = {.end = &end, .frames = IWARP_NO_BUFFER}, .waits_for = EPOLLIN};
     snprintf(initiator->text, TEXT, "initiator %ld", number);
-    must(iwarp_open_next(&end, DOMAIN, IWARP_INITIATOR, options, (const uint8_t *)"", 0, &carried->stream), "open_next");
+    must(iwarp_open_next(&end, DOMAIN, IWARP_INITIATOR, options, iwarp_octets(NULL), 0, &carried->stream), "open_next");
     must(iwarp_post_recv(&end, carried->stream, TEXT), "post_recv");
     must(iwarp_buffer_new(0, &carried->frames), "buffer_new");
     carried->fd = connect_to(port);

@@ -109,7 +109,7 @@ int main(int n, char **all) {
     if ((options & IWARP_PEER_TO_PEER) && !(options & IWARP_ENHANCED)) misused(&words, words.at[2], ": 8 comes only with 4");
     must(iwarp_new(&end), "new");
     must(iwarp_add_domain(&end, DOMAIN), "add_domain");
-    must(iwarp_open(&end, STREAM, DOMAIN, IWARP_INITIATOR, options, (const uint8_t *)"", 0), "open");
+    must(iwarp_open(&end, STREAM, DOMAIN, IWARP_INITIATOR, options, iwarp_octets(NULL), 0), "open");
     must(iwarp_post_recv(&end, STREAM, BUFFER), "post_recv");
     must(iwarp_buffer_new(0, &carried.frames), "buffer_new");
     carried.fd = connect_to(port);

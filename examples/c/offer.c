@@ -49,7 +49,7 @@ static void received(void) {
 static void begin(struct iwarp *handle) {
     must(iwarp_new(handle), "new");
     must(iwarp_add_domain(handle, DOMAIN), "add_domain");
-    must(iwarp_open(handle, STREAM, DOMAIN, IWARP_PRESET, IWARP_CRC, (const uint8_t *)"", 0), "open");
+    must(iwarp_open(handle, STREAM, DOMAIN, IWARP_PRESET, IWARP_CRC, iwarp_octets(NULL), 0), "open");
 }
 
 /* Hands what the peer emits to the end, and acts on what comes of it. */

@@ -15,7 +15,7 @@ static void must(int32_t code, const char *call) {
 static void begin(struct iwarp *end) {
     must(iwarp_new(end), "new");
     must(iwarp_add_domain(end, DOMAIN), "add_domain");
-    must(iwarp_open(end, STREAM, DOMAIN, IWARP_PRESET, IWARP_CRC, (const uint8_t *)"", 0), "open");
+    must(iwarp_open(end, STREAM, DOMAIN, IWARP_PRESET, IWARP_CRC, iwarp_octets(NULL), 0), "open");
 }
 
 /* Hands what one end emits to the other. */

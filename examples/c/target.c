@@ -42,7 +42,6 @@ static struct iwarp end = IWARP_CLOSED;
 static struct domain domains[MOST_DOMAINS]; /* that of number 1 is the first */
 static uint32_t added, most; /* how many domains there are, and how many there may be */
 static struct connection *free_places;
-static const uint8_t none[1]; /* the private data of a responder */
 static struct iwarp_buffer message = IWARP_NO_BUFFER; /* a receive buffer, between two postings */
 static uint32_t options;
 static int pooled; /* how many buffers a domain's pool has; 0 if each stream has its own */
@@ -126,9 +125,9 @@ static void free_end(void) {
 /* Opens a stream. */
 static int32_t open_stream(struct connection *connection) {
     uint32_t domain = connection->domain, *stream = &connection->carried.stream;
-    if (!pooled) return iwarp_open_next(&end, domain, IWARP_RESPONDER, options, none, 0, stream);
+    if (!pooled) return iwarp_open_next(&end, domain, IWARP_RESPONDER, options, iwarp_octets(NULL), 0, stream);
     fill_pool(domain);
-    return iwarp_open_shared_next(&end, domain, IWARP_RESPONDER, options, none, 0, stream);
+    return iwarp_open_shared_next(&end, domain, IWARP_RESPONDER, options, iwarp_octets(NULL), 0, stream);
 }
 
 /* Makes what a stream needs: a receive buffer, unless there is a pool, and a region. */
