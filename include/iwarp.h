@@ -560,6 +560,7 @@ struct iwarp_emission {
     uint32_t layer;
     uint32_t error;
     uint32_t code;
+    uint32_t spare; /* reserved */
     uint64_t from;
     uint64_t to;
     uint64_t n;

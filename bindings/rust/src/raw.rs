@@ -267,6 +267,7 @@ structs! {
         layer: u32,
         error: u32,
         code: u32,
+        spare: u32,
         from: u64,
         to: u64,
         n: u64,

@@ -151,6 +151,7 @@ none_emitted = record {
   layer = 0;
   error = 0;
   code = 0;
+  spare = 0;
   from = 0;
   to = 0;
   n = 0;
