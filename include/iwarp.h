@@ -15,8 +15,8 @@
  * 4. when the socket is writable: calls iwarp_fill, writes the buffer out, and drops what was written
  *    (iwarp_buffer_drop_front): what the socket did not take is written before more is emitted. Or it calls iwarp_emit, for
  *    one frame in memory of its own, until it reports IWARP_NOTHING. iwarp_wants_write tells when to wait for that;
- * 5. after IWARP_OPENED or a successful iwarp_accept: posts Writes, Sends and Reads (iwarp_post_write and so on), then
- *    does 4;
+ * 5. after IWARP_OPENED or a successful iwarp_accept: posts Writes, Sends and Reads (iwarp_post_write and so on, or iwarp_post),
+ *    then does 4;
  * 6. when the connection closed: calls iwarp_break, then iwarp_work_on until IWARP_IDLE, which hands back what was
  *    posted, and iwarp_close, which frees the stream's memory.
  *
@@ -35,6 +35,7 @@
  * - No pointer is null, even if its count is 0: pass `iwarp_octets(p)` and `iwarp_out(p)` for a `p` that may be. `octets` and
  *   `private_data` point to `n` octets that can be read, and that nothing writes during the call; `out` points to `room` octets
  *   that can be written. What the pointers of one call point to does not overlap.
+ * - A struct that begins with `size` is whole, as this header or a later one has it, and `size` is its `sizeof`.
  * - One call at a time on a handle and on a buffer, from any thread: a call begins once the one before it has returned.
  *   Calls on several handles may go on at once.
  * - No call from a signal handler, nor from the forked child of a process that has threads.
@@ -46,9 +47,9 @@
  * done; a place that iwarp_room lent is taken back by the calls named above; iwarp_emit_onto and iwarp_fill may leave the
  * buffer's octets at another address; and iwarp_post_send_buffer says what may become of a buffer. IWARP_NO_MEMORY means that
  * malloc failed; the call may be made again. A call that copies octets, or allocates a receive buffer, does so first, so it
- * may return IWARP_NO_MEMORY in place of a reason that the region, the stream or the pool has; iwarp_post_send_buffer and
- * iwarp_post_write_buffer, which allocate a few octets first, may too. Any other call that takes a buffer returns it only if
- * no other reason holds.
+ * may return IWARP_NO_MEMORY in place of a reason that the region, the stream or the pool has; iwarp_post_send_buffer,
+ * iwarp_post_write_buffer and iwarp_post_buffer, which allocate a few octets first, may too. Any other call that takes a buffer
+ * returns it only if no other reason holds.
  *
  * A peer's mistake is never a return code: iwarp_work reports IWARP_FAULT, iwarp_emit IWARP_DENIED, or iwarp_fill
  * IWARP_FILL_DENIED, and that stream has ended.
@@ -56,6 +57,14 @@
  * A call gives work to no stream but its own: a stream at which iwarp_work reported IWARP_IDLE, and iwarp_wants_write 0 behind that,
  * would report so again until the next call on it, whatever is done to other streams, to regions and to pools. So a program of many
  * streams asks those that it called, and need not ask each.
+ *
+ * Later versions 1.x add to this header, and take nothing away: a program that was compiled with this one runs with their
+ * libraries. They may report kinds of events, set flags and return codes that are not named here: a program passes over an event
+ * or a flag that it does not know, and takes such a code for a refusal. They may put something into what is reserved, or behind the
+ * fields of a struct that begins with `size`: of such a struct a library writes no octet past `size`, and of one that it reads it
+ * looks at a later field only if a bit of `flags` says so. A library takes a struct that is longer than its own, leaving the octets
+ * behind alone, and refuses one that is shorter than in the version that had it first (IWARP_BAD_STRUCT), and a bit that it does
+ * not know (IWARP_BAD_BITS): so a program that asks for what a later version added is told where that is not there.
  *
  * A frame has its turn when all octets before it have been processed; messages complete only then, in order. The
  * in-order point is where the last frame that had its turn ends. A stream place is a count of octets, from the first
@@ -143,7 +152,8 @@ enum {
     IWARP_NOT_AT_REST = 36, /* the stream is open, or has something left to hand back or to emit */
     IWARP_NUMBERS_SPENT = 37, /* all numbers of streams, up to 2^32 - 1, were given */
     IWARP_WINDOW_FULL = 38, /* the stream's window has no room before iwarp_work makes some */
-    IWARP_NOT_LENT = 39 /* no place is lent for so many octets, since it was taken back for instance; or they are none */
+    IWARP_NOT_LENT = 39, /* no place is lent for so many octets, since it was taken back for instance; or they are none */
+    IWARP_BAD_STRUCT = 40 /* a struct's `size` is less than in the version that had it first, or its `kind` is none that the call takes */
 };
 
 /* Tells the address of a text that says what a code means. The text is never freed. */
@@ -175,6 +185,16 @@ uint32_t iwarp_version(void);
 
 /* Opens a closed handle with a new endpoint, which has no domain and no stream. */
 int32_t iwarp_new(struct iwarp *handle);
+
+/* How a handle is opened. What is reserved is 0, and not read. */
+struct iwarp_options {
+    size_t size; /* sizeof(struct iwarp_options) */
+    uint64_t flags; /* 0: none is named yet */
+    uint64_t reserved[4];
+};
+
+/* As iwarp_new, with options. The struct is judged first: IWARP_BAD_STRUCT, then IWARP_BAD_BITS. */
+int32_t iwarp_new_with(struct iwarp *handle, const struct iwarp_options *options);
 
 /* Frees all that the handle has, and closes it. A closed handle stays closed, so a second call does nothing. */
 void iwarp_free(struct iwarp *handle);
@@ -270,6 +290,16 @@ int32_t iwarp_load(struct iwarp *handle, uint32_t stag, uint64_t to, uint8_t *ou
 /* Writes the facts of a region, valid or not. */
 int32_t iwarp_facts(struct iwarp *handle, uint32_t stag, struct iwarp_facts *facts);
 
+/* The facts of a region, and what later versions add to them. What is reserved becomes 0. */
+struct iwarp_region {
+    size_t size; /* sizeof(struct iwarp_region): the call reads it, and leaves it */
+    struct iwarp_facts facts;
+    uint64_t reserved[4];
+};
+
+/* As iwarp_facts, into a struct that can grow. */
+int32_t iwarp_region_facts(struct iwarp *handle, uint32_t stag, struct iwarp_region *region);
+
 /* ---- streams */
 
 /* How a stream begins. */
@@ -345,6 +375,16 @@ struct iwarp_told {
 /* Writes what the peer told in its start-up frame, once that was read: at IWARP_ASKED, and from IWARP_OPENED on. */
 int32_t iwarp_told(struct iwarp *handle, uint32_t stream, struct iwarp_told *told);
 
+/* What the peer told in its start-up frame, and what later versions add to that. What is reserved becomes 0. */
+struct iwarp_peer {
+    size_t size; /* sizeof(struct iwarp_peer): the call reads it, and leaves it */
+    struct iwarp_told told;
+    uint64_t reserved[4];
+};
+
+/* As iwarp_told, into a struct that can grow. */
+int32_t iwarp_peer_facts(struct iwarp *handle, uint32_t stream, struct iwarp_peer *peer);
+
 /* How far a stream is in its life. */
 enum {
     IWARP_STATE_STARTING = 0, /* its start-up goes on: of postings only receive buffers are taken */
@@ -402,6 +442,32 @@ int32_t iwarp_post_write_buffer(struct iwarp *handle, uint32_t stream, uint32_t 
 /* Posts a Read of `size` octets, from a region of the peer into one of this end. */
 int32_t iwarp_post_read(struct iwarp *handle, uint32_t stream, uint32_t sink, uint64_t sink_to, uint32_t size,
                         uint32_t source, uint64_t source_to, uint64_t token);
+
+/* What is posted, and what an event tells of. */
+enum { IWARP_MESSAGE_WRITE = 1, IWARP_MESSAGE_SEND = 2, IWARP_MESSAGE_READ = 3 };
+
+/* A message to post. Fields that its kind does not need are not read; nor is what is reserved, which is 0. */
+struct iwarp_posting {
+    size_t size; /* sizeof(struct iwarp_posting) */
+    uint32_t kind; /* IWARP_MESSAGE_WRITE, IWARP_MESSAGE_SEND or IWARP_MESSAGE_READ */
+    uint32_t stag; /* the peer's region: that a Write goes to, a Read comes from, or a Send with IWARP_INVALIDATES invalidates */
+    uint32_t sink; /* the region of this end that a Read goes to */
+    uint32_t len; /* how many octets a Read asks for */
+    uint64_t flags; /* of a Send, a sum of IWARP_SOLICITED and IWARP_INVALIDATES; of others 0 */
+    uint64_t to; /* the tagged offset in the peer's region, of a Write or a Read */
+    uint64_t sink_to; /* the tagged offset that a Read goes to */
+    uint64_t token;
+    uint64_t reserved[4];
+};
+
+/* Posts the message that a struct describes, as iwarp_post_send, iwarp_post_write or iwarp_post_read does: a Send or a Write of a
+ * copy of the octets, or a Read, which does not use them. Behind IWARP_IS_CLOSED the struct is judged first: IWARP_BAD_STRUCT, then
+ * IWARP_BAD_BITS. */
+int32_t iwarp_post(struct iwarp *handle, uint32_t stream, const struct iwarp_posting *posting, const uint8_t *octets, size_t n);
+
+/* Posts the Send or Write that a struct describes of the buffer's octets themselves, as iwarp_post_send_buffer or
+ * iwarp_post_write_buffer does, with the same exception. IWARP_BAD_STRUCT also means that it describes a Read, which has no octets. */
+int32_t iwarp_post_buffer(struct iwarp *handle, uint32_t stream, const struct iwarp_posting *posting, struct iwarp_buffer *buffer);
 
 /* Posts a receive buffer of `n` octets, at most 16,777,216. A Send that finds no buffer ends the stream. */
 int32_t iwarp_post_recv(struct iwarp *handle, uint32_t stream, size_t n);
@@ -488,9 +554,6 @@ enum {
     IWARP_FAULT = 13, /* the stream has ended by a fault of the peer's, `layer`, `error`, `code` */
     IWARP_TRIED = 14 /* the frame at stream place `to` was judged before its turn, and is left until its turn */
 };
-
-/* What was posted. */
-enum { IWARP_MESSAGE_WRITE = 1, IWARP_MESSAGE_SEND = 2, IWARP_MESSAGE_READ = 3 };
 
 /* What is wrong with a start-up frame. */
 enum { IWARP_BAD_KEY = 1, IWARP_BAD_REVISION = 2, IWARP_BAD_LENGTH = 3, IWARP_REJECTED = 4 };

@@ -104,6 +104,89 @@ static void takes(int done, struct iwarp_buffer *buffer, size_t had, const uint8
     CHECK(done ? n == 0 : n == had && (n == 0 || later == at));
 }
 
+/* A struct that begins with its size has this one, or is mostly refused. */
+static size_t any_size(size_t whole) {
+    switch (below(10)) {
+    case 0: return below((uint32_t)whole);
+    case 1: return whole + chance();
+    default: return whole;
+    }
+}
+
+/* A struct that is too short is refused, and nothing is written into it. What is reserved becomes 0. */
+static void call_region_facts(struct iwarp *handle, uint32_t stag) {
+    struct iwarp_region region = {.size = any_size(sizeof region), .facts.base = MARK, .reserved = {MARK}}, was = region;
+    struct iwarp_facts facts;
+    int32_t code = iwarp_region_facts(handle, stag, &region), told = iwarp_facts(handle, stag, &facts);
+    CHECK(code == (told != IWARP_IS_CLOSED && region.size < sizeof region ? IWARP_BAD_STRUCT : told));
+    if (!answered(code)) {
+        CHECK(memcmp(&region, &was, sizeof region) == 0);
+        return;
+    }
+    CHECK(memcmp(&region.facts, &facts, sizeof facts) == 0 && region.size == was.size);
+    CHECK(region.reserved[0] == 0 && region.reserved[3] == 0);
+}
+
+static void call_peer_facts(struct iwarp *handle, uint32_t stream) {
+    struct iwarp_peer peer = {.size = any_size(sizeof peer), .told.ird = MARK, .reserved = {MARK}}, was = peer;
+    struct iwarp_told told;
+    int32_t code = iwarp_peer_facts(handle, stream, &peer), known = iwarp_told(handle, stream, &told);
+    CHECK(code == (known != IWARP_IS_CLOSED && peer.size < sizeof peer ? IWARP_BAD_STRUCT : known));
+    if (!answered(code)) {
+        CHECK(memcmp(&peer, &was, sizeof peer) == 0);
+        return;
+    }
+    CHECK(memcmp(&peer.told, &told, sizeof told) == 0 && peer.size == was.size);
+    CHECK(peer.reserved[0] == 0 && peer.reserved[3] == 0);
+}
+
+static struct iwarp_posting any_posting(void) {
+    struct iwarp_posting posting = {.size = any_size(sizeof posting), .kind = below(20) ? 1 + below(3) : chance()};
+    posting.stag = any_stag();
+    posting.sink = any_stag();
+    posting.len = below(4) ? below(LONGEST) : chance();
+    posting.flags = below(20) ? (posting.kind == IWARP_MESSAGE_SEND ? below(4) : 0) : any_place();
+    posting.to = any_place();
+    posting.sink_to = any_place();
+    posting.token = chance();
+    posting.reserved[below(4)] = chance();
+    return posting;
+}
+
+/* The reason that a struct has by itself. */
+static int32_t wrong_in(const struct iwarp_posting *posting) {
+    if (posting->size < sizeof *posting) return IWARP_BAD_STRUCT;
+    if (posting->kind < IWARP_MESSAGE_WRITE || posting->kind > IWARP_MESSAGE_READ) return IWARP_BAD_STRUCT;
+    return posting->flags > (posting->kind == IWARP_MESSAGE_SEND ? 3 : 0) ? IWARP_BAD_BITS : IWARP_OK;
+}
+
+static int32_t wrong_for_a_buffer(const struct iwarp_posting *posting) {
+    int32_t reason = wrong_in(posting);
+    return reason == IWARP_OK && posting->kind == IWARP_MESSAGE_READ ? IWARP_BAD_STRUCT : reason;
+}
+
+/* If no closed handle or missing buffer is told, the struct's own reason is, if it has one. */
+static int judged(int32_t code, int32_t reason) {
+    CHECK(code == IWARP_IS_CLOSED || code == IWARP_BUFFER_MISSING || (reason ? code == reason : code != IWARP_BAD_STRUCT));
+    return answered(code);
+}
+
+/* A handle that is open stays as it is; another is opened by options. */
+static void call_new_with(struct iwarp *handle) {
+    struct iwarp_options options = {.size = any_size(sizeof options), .flags = below(4) ? 0 : any_place(), .reserved = {MARK}};
+    struct iwarp one = IWARP_CLOSED;
+    void *at = handle->at;
+    int32_t reason = options.size < sizeof options ? IWARP_BAD_STRUCT : options.flags ? IWARP_BAD_BITS : IWARP_OK;
+    if (at) {
+        CHECK(iwarp_new_with(handle, &options) == (reason ? reason : IWARP_ALREADY_OPEN) && handle->at == at);
+        return;
+    }
+    int32_t code = iwarp_new_with(&one, &options);
+    CHECK(reason ? code == reason : code == IWARP_OK || code == IWARP_NO_MEMORY);
+    CHECK(answered(code) == (one.at != 0));
+    iwarp_free(&one);
+}
+
 /* The first n octets go, and the others stay as they are. */
 static void call_drop_front(struct iwarp_buffer *buffer, size_t n) {
     static uint8_t kept[LONGEST];
@@ -125,9 +208,15 @@ static void call_memory(struct iwarp *handle, struct iwarp_buffer *buffer) {
     struct iwarp_facts facts;
     uint8_t *at, *later;
     size_t had = has(buffer, &at);
-    switch (below(17)) {
+    switch (below(19)) {
     case 0:
         answered(iwarp_add_domain(handle, pd));
+        return;
+    case 17:
+        call_region_facts(handle, named);
+        return;
+    case 18:
+        call_new_with(handle);
         return;
     case 15:
         call_drop_front(buffer, len);
@@ -217,7 +306,10 @@ static void call_stream(struct iwarp *handle, struct iwarp_buffer *buffer) {
     struct iwarp_told told;
     uint8_t *at, *later;
     size_t had = has(buffer, &at);
-    switch (below(17)) {
+    switch (below(18)) {
+    case 17:
+        call_peer_facts(handle, stream);
+        return;
     case 14:
         opened(iwarp_open_next(handle, pd, below(3), any_bits(15), given, below(600), &number), &number);
         return;
@@ -365,7 +457,15 @@ static void call_octets(struct iwarp *handle, struct iwarp *other, struct iwarp_
     uint8_t *at, *later;
     size_t had = has(buffer, &at);
     struct iwarp_progress progress = {.sent = MARK};
-    switch (below(19)) {
+    struct iwarp_posting posting = any_posting();
+    switch (below(21)) {
+    case 19:
+        if (below(8) == 0) len = 0;
+        judged(iwarp_post(handle, stream, &posting, iwarp_octets(len ? given : 0), len), wrong_in(&posting));
+        return;
+    case 20:
+        takes(judged(iwarp_post_buffer(handle, stream, &posting, buffer), wrong_for_a_buffer(&posting)), buffer, had, at);
+        return;
     case 17:
         call_fill(handle, stream, below(2) ? len : below(3), buffer);
         return;
@@ -421,7 +521,8 @@ static void call_octets(struct iwarp *handle, struct iwarp *other, struct iwarp_
         if (!answered(iwarp_deliver(handle, stream, below(3) ? below(400) : chance(), given, len, &kept))) CHECK(kept == MARK);
         return;
     case 9:
-        keeps_out(fetched(iwarp_fetch(handle, stream, out, len, &n), handle, stream, 1));
+        if (below(8) == 0) len = 0;
+        keeps_out(fetched(iwarp_fetch(handle, stream, iwarp_out(len ? out : 0), len, &n), handle, stream, 1));
         return;
     case 10:
         if (!fetched(iwarp_fetch_buffer(handle, stream, buffer, &n), handle, stream, had != MARK))
@@ -529,23 +630,60 @@ static void fill(struct sender *sender, const uint8_t *octets, size_t n) {
     sender->had[sender->posted] = n;
 }
 
-/* Posts a Send, of a copy or from a buffer. */
-static void post_send(struct sender *sender, const uint8_t *octets, size_t n) {
+/* Posts what a struct describes, of a copy or from a buffer. */
+static void post_described(struct sender *sender, uint32_t kind, const uint8_t *octets, size_t n) {
+    struct iwarp_posting posting = {.size = sizeof posting, .kind = kind, .stag = sender->stag, .token = sender->posted};
+    posting.to = sender->end_of_written;
     if (below(2)) {
-        MUST(iwarp_post_send(&sender->end, STREAM, octets, n, 0, 0, sender->posted));
+        MUST(iwarp_post(&sender->end, STREAM, &posting, octets, n));
         return;
     }
     fill(sender, octets, n);
-    MUST(iwarp_post_send_buffer(&sender->end, STREAM, &sender->buffer, 0, 0, sender->posted));
+    MUST(iwarp_post_buffer(&sender->end, STREAM, &posting, &sender->buffer));
+}
+
+/* Posts a Send, of a copy or from a buffer, by either kind of call. */
+static void post_send(struct sender *sender, const uint8_t *octets, size_t n) {
+    switch (below(4)) {
+    case 0:
+    case 1:
+        post_described(sender, IWARP_MESSAGE_SEND, octets, n);
+        break;
+    case 2:
+        MUST(iwarp_post_send(&sender->end, STREAM, octets, n, 0, 0, sender->posted));
+        break;
+    default:
+        fill(sender, octets, n);
+        MUST(iwarp_post_send_buffer(&sender->end, STREAM, &sender->buffer, 0, 0, sender->posted));
+    }
 }
 
 static void post_write(struct sender *sender, const uint8_t *octets, size_t n) {
-    if (below(2)) {
+    switch (below(4)) {
+    case 0:
+    case 1:
+        post_described(sender, IWARP_MESSAGE_WRITE, octets, n);
+        break;
+    case 2:
         MUST(iwarp_post_write(&sender->end, STREAM, sender->stag, sender->end_of_written, octets, n, sender->posted));
+        break;
+    default:
+        fill(sender, octets, n);
+        MUST(iwarp_post_write_buffer(&sender->end, STREAM, sender->stag, sender->end_of_written, &sender->buffer, sender->posted));
+    }
+}
+
+/* Posts a Read into this end's region of what stands at the same place of the other's. */
+static void post_read(struct sender *sender, uint64_t to, uint32_t n) {
+    struct iwarp_posting posting = {.size = sizeof posting, .kind = IWARP_MESSAGE_READ, .stag = sender->stag, .sink = sender->sink};
+    if (below(2)) {
+        MUST(iwarp_post_read(&sender->end, STREAM, sender->sink, to, n, sender->stag, to, sender->posted));
         return;
     }
-    fill(sender, octets, n);
-    MUST(iwarp_post_write_buffer(&sender->end, STREAM, sender->stag, sender->end_of_written, &sender->buffer, sender->posted));
+    posting.to = posting.sink_to = to;
+    posting.len = n;
+    posting.token = sender->posted;
+    MUST(iwarp_post(&sender->end, STREAM, &posting, iwarp_octets(0), 0));
 }
 
 /* A message is done: gets its octets back if it was posted from a buffer, and none if not; or leaves them. */
@@ -578,7 +716,7 @@ static void post(struct sender *sender) {
         sender->end_of_written += n;
         break;
     default:
-        MUST(iwarp_post_read(&sender->end, STREAM, sender->sink, to, (uint32_t)n, sender->stag, to, sender->posted));
+        post_read(sender, to, (uint32_t)n);
     }
     sender->posted++;
 }

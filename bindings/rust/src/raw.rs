@@ -109,6 +109,7 @@ constants! {
         IWARP_NUMBERS_SPENT = 37,
         IWARP_WINDOW_FULL = 38,
         IWARP_NOT_LENT = 39,
+        IWARP_BAD_STRUCT = 40,
     }
     u32 {
         IWARP_WRITE = 1,
@@ -240,6 +241,45 @@ structs! {
         rtr_read: u32,
     }
 
+    /// The facts of a region, in a struct that can grow.
+    #[derive(Default)]
+    struct iwarp_region {
+        size: usize,
+        facts: iwarp_facts,
+        reserved: [u64; 4],
+    }
+
+    /// What the peer told in its start-up frame, in a struct that can grow.
+    #[derive(Default)]
+    struct iwarp_peer {
+        size: usize,
+        told: iwarp_told,
+        reserved: [u64; 4],
+    }
+
+    /// How a handle is opened.
+    #[derive(Default)]
+    struct iwarp_options {
+        size: usize,
+        flags: u64,
+        reserved: [u64; 4],
+    }
+
+    /// A message to post.
+    #[derive(Default)]
+    struct iwarp_posting {
+        size: usize,
+        kind: u32,
+        stag: u32,
+        sink: u32,
+        len: u32,
+        flags: u64,
+        to: u64,
+        sink_to: u64,
+        token: u64,
+        reserved: [u64; 4],
+    }
+
     /// What a step of work did.
     #[derive(Default)]
     struct iwarp_event {
@@ -300,6 +340,7 @@ functions! {
     fn iwarp_text_at(code: i32, text: *mut *const c_char);
     fn iwarp_version() -> u32;
     fn iwarp_new(handle: *mut iwarp) -> i32;
+    fn iwarp_new_with(handle: *mut iwarp, options: *const iwarp_options) -> i32;
     fn iwarp_free(handle: *mut iwarp);
     fn iwarp_add_domain(handle: *mut iwarp, pd: u32) -> i32;
     fn iwarp_buffer_new(n: usize, buffer: *mut iwarp_buffer) -> i32;
@@ -349,6 +390,7 @@ functions! {
     fn iwarp_store(handle: *mut iwarp, stag: u32, to: u64, octets: *const u8, n: usize) -> i32;
     fn iwarp_load(handle: *mut iwarp, stag: u32, to: u64, out: *mut u8, n: usize) -> i32;
     fn iwarp_facts(handle: *mut iwarp, stag: u32, facts: *mut iwarp_facts) -> i32;
+    fn iwarp_region_facts(handle: *mut iwarp, stag: u32, region: *mut iwarp_region) -> i32;
     fn iwarp_open(
         handle: *mut iwarp,
         stream: u32,
@@ -371,6 +413,7 @@ functions! {
     fn iwarp_reject(handle: *mut iwarp, stream: u32, private_data: *const u8, n: usize) -> i32;
     fn iwarp_private(handle: *mut iwarp, stream: u32, out: *mut u8, room: usize, n: *mut usize) -> i32;
     fn iwarp_told(handle: *mut iwarp, stream: u32, told: *mut iwarp_told) -> i32;
+    fn iwarp_peer_facts(handle: *mut iwarp, stream: u32, peer: *mut iwarp_peer) -> i32;
     fn iwarp_state(handle: *mut iwarp, stream: u32, state: *mut u32) -> i32;
     fn iwarp_break(handle: *mut iwarp, stream: u32) -> i32;
     fn iwarp_close(handle: *mut iwarp, stream: u32) -> i32;
@@ -418,6 +461,19 @@ functions! {
         source: u32,
         source_to: u64,
         token: u64,
+    ) -> i32;
+    fn iwarp_post(
+        handle: *mut iwarp,
+        stream: u32,
+        posting: *const iwarp_posting,
+        octets: *const u8,
+        n: usize,
+    ) -> i32;
+    fn iwarp_post_buffer(
+        handle: *mut iwarp,
+        stream: u32,
+        posting: *const iwarp_posting,
+        buffer: *mut iwarp_buffer,
     ) -> i32;
     fn iwarp_post_recv(handle: *mut iwarp, stream: u32, n: usize) -> i32;
     fn iwarp_post_recv_buffer(handle: *mut iwarp, stream: u32, buffer: *mut iwarp_buffer) -> i32;

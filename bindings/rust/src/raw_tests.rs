@@ -53,6 +53,10 @@ in_c! {
     *mut iwarp_emission = "struct iwarp_emission *",
     *mut iwarp_filling = "struct iwarp_filling *",
     *mut iwarp_progress = "struct iwarp_progress *",
+    *mut iwarp_region = "struct iwarp_region *",
+    *mut iwarp_peer = "struct iwarp_peer *",
+    *const iwarp_options = "const struct iwarp_options *",
+    *const iwarp_posting = "const struct iwarp_posting *",
 }
 
 /// A C program that compiles only if the header says the same.

@@ -406,6 +406,35 @@ fn frames_are_emitted_one_by_one_or_many() -> Result<()> {
     Ok(())
 }
 
+/// The calls of `iwarp.h` with structs that begin with their size, which the safe types do without.
+#[test]
+fn structs_that_begin_with_their_size() -> Result<()> {
+    use iwarp::raw;
+    let [mut a, mut b] = ends()?;
+    let posting = raw::iwarp_posting {
+        size: std::mem::size_of::<raw::iwarp_posting>(),
+        kind: raw::IWARP_MESSAGE_SEND,
+        token: 7,
+        ..Default::default()
+    };
+    let short = raw::iwarp_posting { size: 87, ..posting };
+    let mut region = raw::iwarp_region { size: std::mem::size_of::<raw::iwarp_region>(), ..Default::default() };
+    let stag = a.handle.register(a.domain, 4096, b"abcd", Rights::WRITE)?;
+    let (at, stream) = (a.handle.as_raw(), a.stream.number());
+    // SAFETY: the handle is as the last call on it left it, each struct is whole, and 5 octets can be read.
+    unsafe {
+        assert_eq!(raw::iwarp_post(at, stream, &short, b"hello".as_ptr(), 5), raw::IWARP_BAD_STRUCT);
+        assert_eq!(raw::iwarp_post(at, stream, &posting, b"hello".as_ptr(), 5), raw::IWARP_OK);
+        assert_eq!(raw::iwarp_region_facts(at, stag.number(), &mut region), raw::IWARP_OK);
+    }
+    assert_eq!((region.facts.base, region.facts.len, region.facts.rights), (4096, 4, raw::IWARP_WRITE));
+    b.handle.post_recv(b.stream, 8)?;
+    a.carry(&mut b)?;
+    assert_eq!(a.event()?, Event::Done { message: Message::Send, token: 7 });
+    assert!(matches!(b.event()?, Event::Received { len: 5, .. }));
+    Ok(())
+}
+
 /// An error is one of input and output too, and keeps its reason.
 #[test]
 fn errors_become_those_of_input_and_output() -> std::io::Result<()> {

@@ -6,6 +6,7 @@
 #![tactic(auto)]
 
 mod buffers;
+mod described;
 mod lending;
 mod limiting;
 mod octets;
@@ -15,6 +16,7 @@ mod posting;
 mod receiving;
 mod regions;
 mod sending;
+mod sized;
 mod streams;
 mod texts;
 
@@ -30,6 +32,7 @@ pub use buffers::{
     iwarp_buffer_at, iwarp_buffer_free, iwarp_buffer_new, iwarp_buffer_truncate,
     iwarp_deregister_buffer, iwarp_emit_onto, iwarp_register_buffer,
 };
+pub use described::{iwarp_post, iwarp_post_buffer};
 use iw_handle::{Handle, code, domain_number};
 pub use lending::{iwarp_came, iwarp_room};
 pub use limiting::{iwarp_register_buffer_for, iwarp_register_for};
@@ -48,6 +51,7 @@ pub use regions::{
     iwarp_region_at, iwarp_register, iwarp_store,
 };
 pub use sending::{iwarp_fetch_sent, iwarp_post_send_buffer, iwarp_post_write_buffer};
+pub use sized::{iwarp_new_with, iwarp_peer_facts, iwarp_region_facts};
 use std::alloc::Global;
 pub use streams::{
     iwarp_accept, iwarp_break, iwarp_open, iwarp_private, iwarp_reject, iwarp_set_mulpdu,

@@ -81,6 +81,8 @@ pub const WINDOW_FULL: u32 = 38;
 
 pub const NOT_LENT: u32 = 39;
 
+pub const BAD_STRUCT: u32 = 40;
+
 // What a region may be used for.
 pub const WRITE: u32 = 1;
 

@@ -62,6 +62,8 @@ pub fn text_of(code: u32) -> &'static [u8]
         numbers::NUMBERS_SPENT => b"all numbers of streams were given: use another handle\0",
         numbers::WINDOW_FULL => b"the window has no room: work until IWARP_IDLE makes some\0",
         numbers::NOT_LENT => b"no place is lent for so many octets: call iwarp_room right before\0",
+        numbers::BAD_STRUCT =>
+            b"a struct's size is less than that of its first version, or the call takes no such kind\0",
         _ => b"no code has this number\0",
     }
 }

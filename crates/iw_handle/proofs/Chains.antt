@@ -25,6 +25,23 @@ module _ {A R : Type 0} (reason : R → Refusal) where
   reason_memory None x none answer y is same memory = same ∙ ap reason (subst (λ r. IfErr r (λ e. e ≡ none)) is memory)
   reason_memory (Some z) x none answer y is same memory = tt
 
+-- the same where only one reason comes before
+pub next_refused : (P : Refusal → Type 0) (a c : Option Refusal) → None ≡ a → IfSome c P → IfSome (first_of a c) P
+next_refused P a c na = subst (λ o. IfSome o P) (λ i. first_of (na i) c)
+
+pub next_memory : (P : Type 0) (a c : Option Refusal) → None ≡ a → IfNone c P → IfNone (first_of a c) P
+next_memory P a c na = subst (λ o. IfNone o P) (λ i. first_of (na i) c)
+
+-- and where the callee's reason stands in a pair
+module _ {R : Type 0} (reason : R → Refusal) where
+  pub paired_refused : (U : Type 0) (o : Option R) (x : R) (y : Refusal) → y ≡ reason x → IfSome o (λ r. (x ≡ r) × U) → IfSome (option_map reason o) (λ r. y ≡ r)
+  paired_refused U None x y same refused = tt
+  paired_refused U (Some z) x y same refused = same ∙ ap reason refused.0
+
+  pub paired_memory : (o : Option R) (x none : R) (y : Refusal) → y ≡ reason x → IfNone o (x ≡ none) → IfNone (option_map reason o) (y ≡ reason none)
+  paired_memory None x none y same memory = same ∙ ap reason memory
+  paired_memory (Some z) x none y same memory = tt
+
 pub err_refused : (A : Type 0) (o : Option Refusal) (y : Refusal) → IfSome o (λ r. y ≡ r) → IfSome o (λ r. ◌≡◌ {A = Result A Refusal} (Err y) (Err r))
 err_refused A None y is = tt
 err_refused A (Some z) y is = ap Err is

@@ -11,5 +11,6 @@ pub mod Steps
 pub mod Lending
 pub mod Limiting
 pub mod Sending
+pub mod Sized
 pub mod Filling
 pub mod Elsewhere

@@ -188,6 +188,7 @@ refusal_code refusals.NumbersSpent = numbers.NUMBERS_SPENT
 refusal_code refusals.NotAtRest = numbers.NOT_AT_REST
 refusal_code refusals.WindowFull = numbers.WINDOW_FULL
 refusal_code refusals.NotLent = numbers.NOT_LENT
+refusal_code refusals.BadStruct = numbers.BAD_STRUCT
 
 -- 0 if the call was not refused
 abbrev pub code_of : Option Refusal → ℕ

@@ -4,6 +4,7 @@
 
 mod buffers;
 mod copying;
+mod described;
 mod emitting;
 mod event;
 mod filling;
@@ -21,6 +22,7 @@ mod receiving;
 mod refusal;
 mod regions;
 mod sending;
+mod sized;
 mod streams;
 mod words;
 mod working;
@@ -33,5 +35,6 @@ pub use handle::Handle;
 pub use held::Held;
 pub use laws::{calls_give_work_to_their_own_stream, codes_are_distinct};
 pub use refusal::{Refusal, buffer_reason, code};
+pub use sized::{Options, PeerTold, Posting, RegionTold};
 pub use words::{domain_number, read_request, stag_of};
 pub use working::QUIET_STEPS;

@@ -26,7 +26,12 @@ pub(crate) fn reason_of(refused: (CallRefusal<PostRefusal>, Request<Bytes>)) -> 
 }
 
 // Posts a request, which the program knows by this token.
-fn post(held: &mut Held, number: u32, request: Request<Bytes>, token: u64) -> Result<(), Refusal>
+pub(crate) fn post(
+    held: &mut Held,
+    number: u32,
+    request: Request<Bytes>,
+    token: u64,
+) -> Result<(), Refusal>
     // The first refusal that applies; if none does, only `NoMemory`.
     ensures refused { IfSome (refusal_to_post held.old.endpoint number request) (λ r. result ≡ Err r) }
     ensures memory { IfNone (refusal_to_post held.old.endpoint number request)
@@ -197,7 +202,8 @@ fn send_copy(
     post(held, number, Request::Message(message), token)
 }
 
-fn post_send(
+// Posts a Send of a copy of the octets. Its flags are a number.
+pub(crate) fn post_send(
     held: &mut Held,
     alloc: Global,
     number: u32,
@@ -227,7 +233,8 @@ fn post_send(
     )
 }
 
-fn post_write(
+// Posts a Write of a copy of the octets.
+pub(crate) fn post_write(
     held: &mut Held,
     alloc: Global,
     number: u32,

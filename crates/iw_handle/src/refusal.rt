@@ -134,6 +134,9 @@ pub enum Refusal {
     /// No place was lent for so many octets, or they are none.
     #[error("no place is lent for so many octets: ask for room right before")]
     NotLent,
+    /// A struct is shorter than that of the first version, or has a kind that the call does not take.
+    #[error("a struct's size is less than that of its first version, or the call takes no such kind")]
+    BadStruct,
 }
 
 pub(crate) fn domain_reason(refusal: DomainRefusal) -> Refusal
@@ -362,6 +365,7 @@ fn number(refusal: Refusal) -> u32
         Refusal::NotAtRest => numbers::NOT_AT_REST,
         Refusal::WindowFull => numbers::WINDOW_FULL,
         Refusal::NotLent => numbers::NOT_LENT,
+        Refusal::BadStruct => numbers::BAD_STRUCT,
     }
 }
 

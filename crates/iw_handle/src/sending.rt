@@ -132,7 +132,7 @@ fn give_back(
 }
 
 // Posts a Send of the octets themselves: none are left where they were.
-fn send_these(
+pub(crate) fn send_these(
     held: &mut Held,
     alloc: Global,
     number: u32,
@@ -165,7 +165,7 @@ fn send_these(
 }
 
 // Posts a Write of the octets themselves: none are left where they were.
-fn write_these(
+pub(crate) fn write_these(
     held: &mut Held,
     alloc: Global,
     number: u32,

@@ -91,7 +91,7 @@ fn copy_private(
 }
 
 // What the peer told in its start-up frame.
-fn told(endpoint: &Endpoint, number: u32) -> Result<Told, Refusal>
+pub(crate) fn told(endpoint: &Endpoint, number: u32) -> Result<Told, Refusal>
     ensures refused { result_err result ≡ stream_refusal endpoint.now number }
     ensures told { IfOk result
         (λ told. told ≡ peer_told (options_at endpoint.now number) (told_at endpoint.now number)) }

@@ -1,4 +1,4 @@
-//! Tests of handles, called as C calls them: two of them joined in memory, buffers that change hands or are filled with frames, streams that are closed, places that are lent, and what is refused.
+//! Tests of handles, called as C calls them: two of them joined in memory, buffers that change hands or are filled with frames, streams that are closed, places that are lent, structs that begin with their size, and what is refused.
 #![tactic(auto)]
 
 #[cfg(test)]
@@ -13,3 +13,5 @@ mod joined;
 mod lending;
 #[cfg(test)]
 mod refused;
+#[cfg(test)]
+mod sized;
