@@ -95,7 +95,7 @@ extern "C" {
 #endif
 
 /* The version of this header: 10,000 for each major number, 100 for each minor one, 1 for each revision. */
-#define IWARP_VERSION 10000
+#define IWARP_VERSION 10100
 
 /* An endpoint, or none. */
 struct iwarp {

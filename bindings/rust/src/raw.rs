@@ -66,7 +66,7 @@ macro_rules! functions {
 
 constants! {
     u32 {
-        IWARP_VERSION = 10000,
+        IWARP_VERSION = 10100,
     }
     i32 {
         IWARP_OK = 0,
