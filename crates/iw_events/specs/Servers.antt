@@ -6,7 +6,7 @@ use Rattle.iw_events.specs.declared.server.ServerCall.{ServerCall}
 use Rattle.iw_events.specs.declared.server.ServerCall.TheVariants as calls
 use Rattle.iw_events.specs.declared.server.ServerEvent.{ServerEvent}
 use Rattle.iw_events.specs.declared.server.ServerAct.{ServerAct}
-use Rattle.iw_events.specs.declared.server.ServerAct.TheVariants.{Plain, Stream, OpenNext, OpenSharedNext, Read, ReadRaw, Close}
+use Rattle.iw_events.specs.declared.server.ServerAct.TheVariants.{Plain, Stream, OpenNext, OpenSharedNext, Read, ReadRaw, RegisterFor, Close}
 use Rattle.iw_events.specs.declared.server.ServerEntry.{ServerEntry}
 
 -- the call of an act; a read has none
@@ -17,6 +17,7 @@ server_call_of (OpenNext pd role options private answer) = Some (calls.OpenNext 
 server_call_of (OpenSharedNext pd role options private answer) = Some (calls.OpenSharedNext pd role options private)
 server_call_of (Read stream from number octets delivery) = None
 server_call_of (ReadRaw stream number octets delivery) = None
+server_call_of (RegisterFor stream base rights octets answer) = Some (calls.RegisterFor stream base rights octets)
 server_call_of (Close stream refused) = Some (calls.Close stream)
 
 abbrev pub server_event_of : ServerEntry (List ℕ) → Option (ServerEvent (List ℕ))

@@ -1,6 +1,8 @@
 use crate::act::{Act, StreamAct};
 use crate::call::{Call, End, Options, StreamCall};
-use iw_endpoint::{NotAtRest, OpenNextRefusal};
+use iw_endpoint::{LimitRefusal, NotAtRest, OpenNextRefusal};
+use iw_memory::Rights;
+use iw_octets::Stag;
 use iw_stream::{Delivery, Role};
 
 /// A call at an end that serves any number of connections: each call of a schedule, and those that a schedule does not
@@ -28,6 +30,13 @@ pub enum ServerCall<O> {
         role: Role,
         options: Options,
         private: O,
+    },
+    /// Registers octets in the domain of a stream, for this stream alone.
+    RegisterFor {
+        stream: u32,
+        base: u64,
+        rights: Rights,
+        octets: O,
     },
     /// Forgets a stream that is at rest.
     Close {
@@ -80,6 +89,14 @@ pub enum ServerAct<O> {
         number: u32,
         octets: O,
         delivery: Delivery,
+    },
+    /// The STag of the region.
+    RegisterFor {
+        stream: u32,
+        base: u64,
+        rights: Rights,
+        octets: O,
+        answer: Result<Stag, LimitRefusal>,
     },
     Close {
         stream: u32,

@@ -49,7 +49,7 @@ use Rattle.iw_laws.proofs.SentWhole.{AreSentIn, are_sent_in}
 use Rattle.iw_laws.proofs.Delivered.{reread, all_short, read_again, joined-plain, count-plain, plain-reread, ready_sends, ready_writes, sends_whole, whole_of, received_are}
 use Rattle.iw_laws.proofs.Pools.{held, tale_seen as tale}
 use Rattle.iw_laws.proofs.Whole.{Seen as BothSeen}
-use Rattle.iw_laws.proofs.Runs.{Run}
+use Rattle.iw_laws.proofs.Runs.{Run, Moment, seen_then}
 use Rattle.iw_laws.proofs.Placed.{requests-reread, sinks_fit, no_requests, no_responses, no_ended, farewell_fits, all_same}
 use Rattle.iw_laws.proofs.Laws.{fitting, answering_all, idle_at_rest}
 
@@ -207,7 +207,8 @@ no_next over t (NoFrame now none early) r = none
 
 pub all_arrived : (trace : List (Entry Octets)) → Run trace → AllArrived trace
 all_arrived trace run past future x n is honest has =
-    let k : BothSeen past (run.left past) = run.seen past (idles (other x) n ∷ future) is in
+    let at : Moment past (idles (other x) n ∷ future) = run past (idles (other x) n ∷ future) is in
+    let k : BothSeen past at.state = seen_then past (idles (other x) n ∷ future) at in
     let p = k.pairs x n in
     let out = p.out (honest.calm (other x)) in
     let back = p.back (honest.calm x) in

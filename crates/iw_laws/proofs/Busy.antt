@@ -36,12 +36,14 @@ use Rattle.iw_events.specs.declared.act.StreamAct.TheVariants.{Work}
 use Rattle.iw_events.specs.declared.act.Seen.{Seen}
 use Rattle.iw_events.specs.declared.act.Seen.TheVariants as seen
 use Rattle.iw_events.specs.declared.act.Entry.{Entry}
-use Rattle.iw_laws.specs.Words.{Octets, Opening, other, acts, acts_if, deed, was_opened, opening_in, opening_of, openings, openings_by, stream_acts, stream_acts_by, ended, posted, posted_by, handed_by, handed_kinds, OnStream}
-use Rattle.iw_laws.specs.Turns.{Story, Located, located, located_of, located_within, past_last, frames_in, next_frame, in_order_point, scene, early_frame, was_placed, story, story_alone, story_of, receiving_of, story_seen, standing, moves_on, hears, TurnsSeen, TurnsStream, Turns}
+use Rattle.iw_laws.specs.Words.{Octets, Opening, other, acts, acts_if, deed, was_opened, opening_in, opening_of, openings, openings_by, stream_acts, stream_acts_by, ended, posted, posted_by, handed_by, handed_kinds, OnSome, AtEach, OnStream}
+use Rattle.iw_laws.specs.Turns.{Story, Located, located, located_of, located_within, past_last, frames_in, next_frame, in_order_point, scene, early_frame, was_placed, story, story_alone, story_of, receiving_of, story_seen, standing, moves_on, hears, TurnsSeen}
 use Rattle.iw_laws.specs.Turns as turns
 use Rattle.iw_laws.specs.Ends.{EndSeen, EndsStream, Ends}
 use Rattle.iw_laws.specs.Sends.{FinishedStream, Finished}
 use Rattle.iw_laws.specs.Busy.{places_ahead, waits, front_steps, messages_left, steps_left, steps_at, IsBusy, AreBusy}
+use Rattle.iw_memory.specs.declared.peer.Peer.{Peer}
+use Rattle.iw_memory.specs.Table.{Table}
 use Rattle.iw_laws.proofs.Tales.{Tale, tale_of, tale_after, tale-push, openings-push, stream_acts-push, acts_mine, acts_other, story_apart}
 use Rattle.iw_laws.proofs.Ends.{opens_same}
 
@@ -282,15 +284,26 @@ some_left n done (seen.Terminated fault) h e = absurd (omega (arith, e))
 some_left n done (seen.Fault fault) h e = absurd (omega (arith, e))
 some_left n done seen.Idle h e = absurd (omega (arith, e))
 
+-- each answer of work is as TurnsStream says, by some regions and of some peer
+abbrev pub TurnsStreamBySome : List (Act Octets) → ℕ → StreamAct Octets → Type 0
+TurnsStreamBySome done n act =
+    OnSome
+    (λ step. (table : Table) × (peer : Peer) × TurnsSeen (ended (stream_acts n done)) (story_of n done) (record (standing n done) { table = table; peer = peer }) step)
+    (deed act).step
+
+abbrev pub TurnsBySome : List (Entry Octets) → Type 0
+TurnsBySome = AtEach (OnStream TurnsStreamBySome)
+
 -- one step that is not idle uses one of those that are left
-one_step : (n : ℕ) (done : List (Act Octets)) (step : Seen Octets) → TurnsStream done n (Work step) → EndsStream done n (Work step) → FinishedStream done n (Work step) → ended (stream_acts n done) ≡ false → (step ≡ seen.Idle → ⊥) → (deed (Work step)).ends ≡ false
+one_step : (n : ℕ) (done : List (Act Octets)) (step : Seen Octets) → TurnsStreamBySome done n (Work step) → EndsStream done n (Work step) → FinishedStream done n (Work step) → ended (stream_acts n done) ≡ false → (step ≡ seen.Idle → ⊥) → (deed (Work step)).ends ≡ false
     → steps_at n (done ++ Stream n (Work step) ∷ []) + 1 ≤ steps_at n done
 one_step n done step turned over finished running busy runs =
     let t : Story = story_of n done in
+    let s : Standing = record (standing n done) { table = turned.0; peer = turned.1 } in
     let mine : List (StreamAct Octets) = stream_acts n done in
     let m' : ℕ = length (posted mine ++ posted_by (Work step)) - length (handed_kinds mine ++ handed_by (Work step)) in
     let one : Less t (story_seen t step) (messages_left mine) m' =
-    less t (standing n done) mine step (messages_left mine) m' (subst (λ b. TurnsSeen b t (standing n done) step) running turned) (subst (λ b. EndSeen b t mine step) running over.0) busy runs
+    less t s mine step (messages_left mine) m' (subst (λ b. TurnsSeen b t s step) running turned.2) (subst (λ b. EndSeen b t mine step) running over.0) busy runs
     (messages_push (posted mine) (handed_kinds mine) step (some_left n done step finished)) in
     let same : steps_left (story_seen t step) m' ≡ steps_left (story_seen (story_alone n done) step) m' = ap (λ z. steps_left z m') (story_apart (story_alone n done) (receiving_of n done) (Work step)) in
     subst (λ (z : Tale). steps_left z.story (length z.posted - length z.handed) + 1 ≤ steps_at n done) (sym (story_push n done step)) (subst (λ k. k + 1 ≤ steps_at n done) same one)
@@ -324,24 +337,24 @@ elsewhere n done act opened running none =
     }
 
 -- a step of work
-works : (n : ℕ) (done : List (Act Octets)) (act : StreamAct Octets) → TurnsStream done n act → EndsStream done n act → FinishedStream done n act → was_opened (openings n done) ≡ true → ended (stream_acts n done) ≡ false → IsBusy act → Leaves n done (Stream n act)
+works : (n : ℕ) (done : List (Act Octets)) (act : StreamAct Octets) → TurnsStreamBySome done n act → EndsStream done n act → FinishedStream done n act → was_opened (openings n done) ≡ true → ended (stream_acts n done) ≡ false → IsBusy act → Leaves n done (Stream n act)
 works n done act turned over finished opened running b =
     let one : steps_at n (done ++ Stream n (Work b.step) ∷ []) + 1 ≤ steps_at n done =
-    one_step n done b.step (subst (TurnsStream done n) b.is turned) (subst (EndsStream done n) b.is over) (subst (FinishedStream done n) b.is finished) running b.busy b.runs in
+    one_step n done b.step (subst (TurnsStreamBySome done n) b.is turned) (subst (EndsStream done n) b.is over) (subst (FinishedStream done n) b.is finished) running b.busy b.runs in
     let mine : nat_eq n n ≡ true = grind (arith, nat_tests) in
     let count : length (stream_acts_by n (Stream n (Work b.step))) ≡ 1 = ap (λ (z : Bool). length (cond z (Work b.step ∷ []) [])) mine in
     let w = still_opened (openings n done) (openings_by n (Stream n (Work b.step))) opened in
     subst (λ z. Leaves n done (Stream n z)) (sym b.is)
     (record { used = omega (arith, one, count); opened = ap was_opened (openings-push n done (Stream n (Work b.step))) ∙ w.0; running = runs_on n done b.step running b.runs })
 
-leaves : (n : ℕ) (done : List (Act Octets)) (act : Act Octets) → OnStream TurnsStream done act → OnStream EndsStream done act → OnStream FinishedStream done act → was_opened (openings n done) ≡ true → ended (stream_acts n done) ≡ false
+leaves : (n : ℕ) (done : List (Act Octets)) (act : Act Octets) → OnStream TurnsStreamBySome done act → OnStream EndsStream done act → OnStream FinishedStream done act → was_opened (openings n done) ≡ true → ended (stream_acts n done) ≡ false
     → AreBusy (stream_acts_by n act) → Leaves n done act
 leaves n done (Stream m act) turned over finished opened running busy = elim (eqb_tells m n) [
   | inr apart ↦ elsewhere n done (Stream m act) opened running (ap (λ (b : Bool). cond b (act ∷ []) []) apart.0)
   | inl same ↦
       let one : AreBusy (act ∷ []) = subst AreBusy (ap (λ (b : Bool). cond b (act ∷ []) []) same.0) busy in
       subst (λ k. Leaves n done (Stream k act)) (sym same.1)
-      (works n done act (subst (λ k. TurnsStream done k act) same.1 turned) (subst (λ k. EndsStream done k act) same.1 over) (subst (λ k. FinishedStream done k act) same.1 finished) opened running one.0)
+      (works n done act (subst (λ k. TurnsStreamBySome done k act) same.1 turned) (subst (λ k. EndsStream done k act) same.1 over) (subst (λ k. FinishedStream done k act) same.1 finished) opened running one.0)
 ]
 leaves n done (Domain pd refused) turned over finished opened running busy = elsewhere n done (Domain pd refused) opened running refl
 leaves n done (Register pd base rights octets answer) turned over finished opened running busy = elsewhere n done (Register pd base rights octets answer) opened running refl
@@ -384,7 +397,7 @@ record Goes (x : End) (n : ℕ) (past : List (Entry Octets)) (z : End) (act : Ac
   pub opened : was_opened (openings n (acts x (past ++ record { end = z; act = act } ∷ []))) ≡ true
   pub running : ended (stream_acts n (acts x (past ++ record { end = z; act = act } ∷ []))) ≡ false
 
-module _ (trace : List (Entry Octets)) (turned : Turns trace) (over : Ends trace) (finished : Finished trace) (n : ℕ) where
+module _ (trace : List (Entry Octets)) (turned : TurnsBySome trace) (over : Ends trace) (finished : Finished trace) (n : ℕ) where
   mine : (x : End) (past : List (Entry Octets)) (act : Act Octets) (future : List (Entry Octets)) → trace ≡ past ++ record { end = x; act = act } ∷ future → was_opened (openings n (acts x past)) ≡ true → ended (stream_acts n (acts x past)) ≡ false
       → AreBusy (stream_acts n (act ∷ [])) → acts_if x x act ≡ act ∷ [] → Goes x n past x act
   mine x past act future is opened running busy one =

@@ -117,7 +117,7 @@ judged_early t s step w = record {
 next_whole : (t : Story) (s : Standing) (step : Seen Octets) → IsJudged t s step → next_frame t ≡ None → ⊥
 next_whole t s step w none = none-some _ (sym none ∙ w.is_next)
 
-early_seen : (over : Bool) (t : Story) (s : Standing) (before : List (StreamAct Octets)) (step : Seen Octets) → IdleSeen over t before step → TurnsSeen over t s step → EarlySeen over t s step
+pub early_seen : (over : Bool) (t : Story) (s : Standing) (before : List (StreamAct Octets)) (step : Seen Octets) → IdleSeen over t before step → TurnsSeen over t s step → EarlySeen over t s step
 early_seen over t s before seen.Idle i w = rests over t i.reason
 early_seen over t s before (seen.Placed right stag to octets) i w =
     λ none. elim w.1 [ inl judged ↦ absurd (next_whole t s (seen.Placed right stag to octets) judged none) | inr early ↦ judged_early t s (seen.Placed right stag to octets) early ]
@@ -159,7 +159,7 @@ not_judged t s step w was = absurd (false≢true (sym w.unplaced ∙ was))
 not_early : (t : Story) (s : Standing) (step : Seen Octets) → IsEarly t s step → TurnsPlaced t s step
 not_early t s step w was frame next = absurd (none-some _ (sym w.no_next ∙ next))
 
-second_seen : (over : Bool) (t : Story) (s : Standing) (step : Seen Octets) → TurnsSeen over t s step → SecondSeen t s step
+pub second_seen : (over : Bool) (t : Story) (s : Standing) (step : Seen Octets) → TurnsSeen over t s step → SecondSeen t s step
 second_seen over t s (seen.Placed right stag to octets) w =
     elim w.1 [ inl judged ↦ not_judged t s (seen.Placed right stag to octets) judged | inr early ↦ not_early t s (seen.Placed right stag to octets) early ]
 second_seen over t s (seen.Buffered msn mo len) w =

@@ -23,7 +23,7 @@ use Rattle.iw_events.specs.declared.act.StreamAct.{StreamAct}
 use Rattle.iw_events.specs.declared.act.StreamAct.TheVariants.{Recv, Post, Emit, First, Deliver, Raw, Mulpdu, Accept, Reject, Work, Break}
 use Rattle.iw_startup.specs.declared.config.Config.{Config}
 use Rattle.iw_stream.specs.declared.answer.Role.{Role}
-use Rattle.iw_laws.specs.Words.{Octets, Opening, stream_acts, stream_acts_by, openings, openings_by, opening_in, opening_of, config_for, was_opened, table_after, table_by, peer_at}
+use Rattle.iw_laws.specs.Words.{Octets, Opening, stream_acts, stream_acts_by, openings, openings_by, opening_in, opening_of, config_for, was_opened, domain_of, table_after, table_by, peer_at}
 use Rattle.iw_endpoint.specs.declared.refusal.OpenSharedRefusal.{OpenSharedRefusal}
 use Rattle.iw_endpoint.specs.Endpoint as endpoint
 use Rattle.iw_endpoint.specs.Endpoint.{EndpointState, pool_of, left_of, open_shared_refusal, open_shared_refusal_of, number_refusal, request_refusal, unshared, stream_at, stream_numbers, unopened as no_stream, stream_of, has_stream, is_taken, open_refusal, no_closed, closed_at}
@@ -47,14 +47,33 @@ unopened (o ∷ os) h = absurd (false≢true (sym h))
 
 -- what the state of an end has in common with what was done there
 pub record EndSeen (s : EndState) (done : List (Act Octets)) : Type 0 where
-  pub table : s.endpoint.table ≡ table_after done
   pub domains : HasDomains s.endpoint
   pub wires : length s.wires ≡ length s.endpoint.streams
   pub none_closed : s.endpoint.closed ≡ no_closed
   pub opened : (n : ℕ) → has_stream s.endpoint n ≡ was_opened (openings n done)
-  pub peer : (n : ℕ) → has_stream s.endpoint n ≡ true → peer_of (stream_at s.endpoint n) ≡ peer_at n done
+  pub domain : (n : ℕ) → has_stream s.endpoint n ≡ true → (stream_at s.endpoint n).domain ≡ domain_of n done
   pub pooled : (n : ℕ) → has_stream s.endpoint n ≡ true → shares (stream_at s.endpoint n) ≡ (opening_of n done).shared
   pub unused : (n : ℕ) → has_stream s.endpoint n ≡ false → stream_acts n done ≡ []
+
+-- each stream has the number that it stands under
+abbrev pub AreNumbered : EndpointState → Type 0
+AreNumbered e = (n : ℕ) (c : StreamState) → stream_of e n ≡ Some c → c.number ≡ Some n
+
+-- the regions are those that were told, and so are the numbers of streams
+pub record IsTold (s : EndState) (done : List (Act Octets)) : Type 0 where
+  pub table : s.endpoint.table ≡ table_after done
+  pub numbers : AreNumbered s.endpoint
+
+pub stream_some : (o : Option StreamState) → is_some o ≡ true → o ≡ Some (unwrap_or o no_stream)
+stream_some None h = absurd (false≢true h)
+stream_some (Some c) h = refl
+
+pub number_at : (e : EndpointState) (n : ℕ) → AreNumbered e → has_stream e n ≡ true → (stream_at e n).number ≡ Some n
+number_at e n numbers has = numbers n (stream_at e n) (stream_some (stream_of e n) has)
+
+-- the peer of a stream, as it was told
+pub peer_told : (s : EndState) (done : List (Act Octets)) (n : ℕ) → EndSeen s done → IsTold s done → has_stream s.endpoint n ≡ true → peer_of (stream_at s.endpoint n) ≡ peer_at n done
+peer_told s done n k told has = λ i. record { domain = k.domain n has i; stream = number_at s.endpoint n told.numbers has i }
 
 -- an act that opens nothing
 pub opens_same : (n : ℕ) (done : List (Act Octets)) (act : Act Octets) → openings_by n act ≡ [] → openings n (done ++ act ∷ []) ≡ openings n done
@@ -142,7 +161,7 @@ pub record KeepsStream (s s' : StreamState) : Type 0 where
   pub peer : peer_of s' ≡ peer_of s
   pub pooled : shares s' ≡ shares s
 
-keeps_stream : (e : EndpointState) (n : ℕ) (act : StreamAct Octets) → KeepsStream (stream_at e n) (left_at e n act)
+pub keeps_stream : (e : EndpointState) (n : ℕ) (act : StreamAct Octets) → KeepsStream (stream_at e n) (left_at e n act)
 keeps_stream e n (Recv len None) = record { peer = refl; pooled = posted_shares (stream_at e n).receiving.source (replicate len 0) }
 keeps_stream e n (Recv len (Some refusal)) = record { peer = refl; pooled = refl }
 keeps_stream e n (Post m None) = record { peer = refl; pooled = refl }
@@ -182,13 +201,10 @@ at_other s m n o h = get_or-set_other s.endpoint.streams m n o None (differ h)
 pub number_there : (s : EndState) (n : ℕ) → has_stream s.endpoint n ≡ true → n < length s.endpoint.streams
 number_there s n h = there s.endpoint.streams n h
 
-abbrev peer_opened : List Opening → ℕ → Peer
-peer_opened os n = record { domain = (opening_in os).domain; stream = Some n }
-
 -- what is so of a number behind an act that leaves this end
 pub record KeepsNumber (s' : EndState) (done : List (Act Octets)) (act : Act Octets) (n : ℕ) : Type 0 where
   pub has : has_stream s'.endpoint n ≡ was_opened (openings n (done ++ act ∷ []))
-  pub peer : has_stream s'.endpoint n ≡ true → peer_of (stream_at s'.endpoint n) ≡ peer_at n (done ++ act ∷ [])
+  pub domain : has_stream s'.endpoint n ≡ true → (stream_at s'.endpoint n).domain ≡ domain_of n (done ++ act ∷ [])
   pub pooled : has_stream s'.endpoint n ≡ true → shares (stream_at s'.endpoint n) ≡ (opening_of n (done ++ act ∷ [])).shared
   pub unused : has_stream s'.endpoint n ≡ false → stream_acts n (done ++ act ∷ []) ≡ []
 
@@ -198,7 +214,7 @@ keeps_number s s' done act n k same none silent =
     let opened_same : openings n (done ++ act ∷ []) ≡ openings n done = opens_same n done act none in
     record {
       has = ap is_some same ∙ k.opened n ∙ ap was_opened (sym opened_same);
-      peer = λ h. ap (λ o. peer_of (unwrap_or o no_stream)) same ∙ k.peer n (ap is_some (sym same) ∙ h) ∙ ap (λ os. peer_opened os n) (sym opened_same);
+      domain = λ h. ap (λ o. (unwrap_or o no_stream).domain) same ∙ k.domain n (ap is_some (sym same) ∙ h) ∙ ap (λ os. (opening_in os).domain) (sym opened_same);
       pooled = λ h. ap (λ o. shares (unwrap_or o no_stream)) same ∙ k.pooled n (ap is_some (sym same) ∙ h) ∙ ap (λ os. (opening_in os).shared) (sym opened_same);
       unused = λ h. stream_acts-push n done act ∙ (λ i. k.unused n (ap is_some (sym same) ∙ h) i ++ silent i);
     }
@@ -216,22 +232,22 @@ first_shares : (shared : Bool) → shares_pool (cond shared sharing.source nothi
 first_shares true = refl
 first_shares false = refl
 
--- a stream is opened
-pub number_opened : (s s' : EndState) (done : List (Act Octets)) (act : Act Octets) (m n : ℕ) (o : Opening) → EndSeen s done → Opens s m → openings_by n act ≡ cond (eqb m n) (o ∷ []) []
-    → s'.endpoint.streams ≡ slice_set s.endpoint.streams m (Some (connected o (Some m)).stream) → stream_acts_by n act ≡ [] → KeepsNumber s' done act n
-number_opened s s' done act m n o k new one left silent = go (eqb m n) refl
+-- a stream is opened, whatever number it has
+pub number_opened : (s s' : EndState) (done : List (Act Octets)) (act : Act Octets) (m n number : ℕ) (o : Opening) → EndSeen s done → Opens s m → openings_by n act ≡ cond (eqb m n) (o ∷ []) []
+    → s'.endpoint.streams ≡ slice_set s.endpoint.streams m (Some (connected o (Some number)).stream) → stream_acts_by n act ≡ [] → KeepsNumber s' done act n
+number_opened s s' done act m n number o k new one left silent = go (eqb m n) refl
   where
     go : (b : Bool) → eqb m n ≡ b → KeepsNumber s' done act n
-    go false e = keeps_number s s' done act n k (ap (λ xs. slice_index_or xs n None) left ∙ at_other s m n (Some (connected o (Some m)).stream) e) (one ∙ opening_none (eqb m n) o e) silent
+    go false e = keeps_number s s' done act n k (ap (λ xs. slice_index_or xs n None) left ∙ at_other s m n (Some (connected o (Some number)).stream) e) (one ∙ opening_none (eqb m n) o e) silent
     go true e =
         let same : m ≡ n = eqb-true m n e in
-        let here : stream_of s'.endpoint n ≡ Some (connected o (Some m)).stream =
-        ap (λ xs. slice_index_or xs n None) left ∙ subst (λ j. slice_index_or (slice_set s.endpoint.streams m (Some (connected o (Some m)).stream)) j None ≡ Some (connected o (Some m)).stream) same (at_same s m (connected o (Some m)).stream new.number) in
+        let here : stream_of s'.endpoint n ≡ Some (connected o (Some number)).stream =
+        ap (λ xs. slice_index_or xs n None) left ∙ subst (λ j. slice_index_or (slice_set s.endpoint.streams m (Some (connected o (Some number)).stream)) j None ≡ Some (connected o (Some number)).stream) same (at_same s m (connected o (Some number)).stream new.number) in
         let before : openings n done ≡ [] = unopened (openings n done) (sym (k.opened n) ∙ subst (λ j. has_stream s.endpoint j ≡ false) same new.fresh) in
         let now : openings n (done ++ act ∷ []) ≡ o ∷ [] = openings-push n done act ∙ (λ i. before i ++ (one ∙ opening_one (eqb m n) o e) i) in
         record {
           has = ap is_some here ∙ ap was_opened (sym now);
-          peer = λ h. ap (λ z. peer_of (unwrap_or z no_stream)) here ∙ ap (λ j. peer_opened (o ∷ []) j) same ∙ ap (λ os. peer_opened os n) (sym now);
+          domain = λ h. ap (λ z. (unwrap_or z no_stream).domain) here ∙ ap (λ os. (opening_in os).domain) (sym now);
           pooled = λ h. ap (λ z. shares (unwrap_or z no_stream)) here ∙ first_shares o.shared ∙ ap (λ os. (opening_in os).shared) (sym now);
           unused = λ h. absurd (true≢false (sym (ap is_some here) ∙ h));
         }
@@ -253,9 +269,9 @@ number_after s peer done (Unpool pd answer) n k rule = number_kept s done (Unpoo
 number_after s peer done (Open m pd role options private (Some refusal)) n k rule = number_kept s done (Open m pd role options private (Some refusal)) n k rule.0 refl refl refl
 number_after s peer done (OpenShared m pd role options private (Some refusal)) n k rule = number_kept s done (OpenShared m pd role options private (Some refusal)) n k rule.0 refl refl refl
 number_after s peer done (Open m pd role options private None) n k rule =
-    number_opened s (end_after s (Open m pd role options private None)) done (Open m pd role options private None) m n (opening_by false pd role options private) k (opens s m pd k.domains (numbered_open s.endpoint m pd role (config_for options private) rule.0)) refl (streams_left s.endpoint (Open m pd role options private None) rule.0) refl
+    number_opened s (end_after s (Open m pd role options private None)) done (Open m pd role options private None) m n m (opening_by false pd role options private) k (opens s m pd k.domains (numbered_open s.endpoint m pd role (config_for options private) rule.0)) refl (streams_left s.endpoint (Open m pd role options private None) rule.0) refl
 number_after s peer done (OpenShared m pd role options private None) n k rule =
-    number_opened s (end_after s (OpenShared m pd role options private None)) done (OpenShared m pd role options private None) m n (opening_by true pd role options private) k (opens s m pd k.domains (numbered_shared s.endpoint m pd role (config_for options private) rule.0)) refl (streams_left s.endpoint (OpenShared m pd role options private None) rule.0) refl
+    number_opened s (end_after s (OpenShared m pd role options private None)) done (OpenShared m pd role options private None) m n m (opening_by true pd role options private) k (opens s m pd k.domains (numbered_shared s.endpoint m pd role (config_for options private) rule.0)) refl (streams_left s.endpoint (OpenShared m pd role options private None) rule.0) refl
 number_after s peer done (Stream m act) n k rule = go (eqb m n) refl
   where
     go : (b : Bool) → eqb m n ≡ b → KeepsNumber (end_after s (Stream m act)) done (Stream m act) n
@@ -270,7 +286,7 @@ number_after s peer done (Stream m act) n k rule = go (eqb m n) refl
         let opened_same : openings n (done ++ Stream m act ∷ []) ≡ openings n done = opens_same n done (Stream m act) refl in
         record {
           has = ap is_some here ∙ sym has ∙ k.opened n ∙ ap was_opened (sym opened_same);
-          peer = λ h. ap (λ z. peer_of (unwrap_or z no_stream)) here ∙ keeps.peer ∙ ap (λ j. peer_of (stream_at s.endpoint j)) same ∙ k.peer n has ∙ ap (λ os. peer_opened os n) (sym opened_same);
+          domain = λ h. ap (λ z. (unwrap_or z no_stream).domain) here ∙ ap (λ (p : Peer). p.domain) keeps.peer ∙ ap (λ j. (stream_at s.endpoint j).domain) same ∙ k.domain n has ∙ ap (λ os. (opening_in os).domain) (sym opened_same);
           pooled = λ h. ap (λ z. shares (unwrap_or z no_stream)) here ∙ keeps.pooled ∙ ap (λ j. shares (stream_at s.endpoint j)) same ∙ k.pooled n has ∙ ap (λ os. (opening_in os).shared) (sym opened_same);
           unused = λ h. absurd (true≢false (sym (ap is_some here) ∙ h));
         }
@@ -319,12 +335,59 @@ domains_after e (Stream n act) none rule all = go (stream_of e n) refl rule.0
 -- an act that the rules give keeps what the end has in common with what was done
 pub end_step : (s peer : EndState) (done : List (Act Octets)) (act : Act Octets) → EndSeen s done → Rule s peer act → EndSeen (end_after s act) (done ++ act ∷ [])
 end_step s peer done act k rule = record {
-  table = table_left s.endpoint act rule.0 ∙ ap (λ z. table_by z act) k.table ∙ sym (table-push done act);
   domains = domains_after s.endpoint act k.none_closed rule.0 k.domains;
   wires = length-wires s act ∙ k.wires ∙ sym (ap length (streams_left s.endpoint act rule.0) ∙ numbers_after s act);
   none_closed = closed_left s.endpoint act ∙ k.none_closed;
   opened = λ n. (number_after s peer done act n k rule).has;
-  peer = λ n. (number_after s peer done act n k rule).peer;
+  domain = λ n. (number_after s peer done act n k rule).domain;
   pooled = λ n. (number_after s peer done act n k rule).pooled;
   unused = λ n. (number_after s peer done act n k rule).unused;
+}
+
+-- ---- the numbers of streams
+
+-- the stream of one number is another
+pub set_numbers : (e e' : EndpointState) (m : ℕ) (c : StreamState) → m < length e.streams → e'.streams ≡ slice_set e.streams m (Some c) → c.number ≡ Some m → AreNumbered e → AreNumbered e'
+set_numbers e e' m c within left number numbers n d is = go (eqb m n) refl
+  where
+    some_one : (x y : StreamState) → Some x ≡ Some y → x ≡ y
+    some_one x y h = cc
+
+    go : (b : Bool) → eqb m n ≡ b → d.number ≡ Some n
+    go true same =
+        let here : stream_of e' n ≡ Some c =
+        ap (λ xs. slice_index_or xs n None) left ∙ subst (λ j. slice_index_or (slice_set e.streams m (Some c)) j None ≡ Some c) (eqb-true m n same) (get_or-set_same e.streams m (Some c) None within) in
+        ap (λ (z : StreamState). z.number) (some_one d c (sym is ∙ here)) ∙ number ∙ ap Some (eqb-true m n same)
+    go false other =
+        numbers n d (sym (ap (λ xs. slice_index_or xs n None) left ∙ get_or-set_other e.streams m n (Some c) None (λ same. false≢true (sym other ∙ eq-eqb m n (sym same)))) ∙ is)
+
+pub same_numbers : (e e' : EndpointState) → e'.streams ≡ e.streams → AreNumbered e → AreNumbered e'
+same_numbers e e' same numbers n d is = numbers n d (sym (ap (λ xs. slice_index_or xs n None) same) ∙ is)
+
+-- an act that the rules give leaves them
+pub numbered_after : (s : EndState) (act : Act Octets) → HasDomains s.endpoint → EndRule s.endpoint act → AreNumbered s.endpoint → AreNumbered (after s.endpoint (call_made act))
+numbered_after s act all rule numbers = by act rule (streams_left s.endpoint act rule)
+  where
+    by : (a : Act Octets) → EndRule s.endpoint a → (after s.endpoint (call_made act)).streams ≡ streams_after s.endpoint a → AreNumbered (after s.endpoint (call_made act))
+    by (Domain pd refused) r left = same_numbers s.endpoint (after s.endpoint (call_made act)) left numbers
+    by (Register pd base rights octets answer) r left = same_numbers s.endpoint (after s.endpoint (call_made act)) left numbers
+    by (Deregister stag answer) r left = same_numbers s.endpoint (after s.endpoint (call_made act)) left numbers
+    by (Invalidate stag refused) r left = same_numbers s.endpoint (after s.endpoint (call_made act)) left numbers
+    by (Store stag to octets refused) r left = same_numbers s.endpoint (after s.endpoint (call_made act)) left numbers
+    by (Share pd refused) r left = same_numbers s.endpoint (after s.endpoint (call_made act)) left numbers
+    by (Pool pd len refused) r left = same_numbers s.endpoint (after s.endpoint (call_made act)) left numbers
+    by (Unpool pd answer) r left = same_numbers s.endpoint (after s.endpoint (call_made act)) left numbers
+    by (Open m pd role options private (Some refusal)) r left = same_numbers s.endpoint (after s.endpoint (call_made act)) left numbers
+    by (OpenShared m pd role options private (Some refusal)) r left = same_numbers s.endpoint (after s.endpoint (call_made act)) left numbers
+    by (Open m pd role options private None) r left =
+        set_numbers s.endpoint (after s.endpoint (call_made act)) m (connected (opening_by false pd role options private) (Some m)).stream (opens s m pd all (numbered_open s.endpoint m pd role (config_for options private) r)).number left refl numbers
+    by (OpenShared m pd role options private None) r left =
+        set_numbers s.endpoint (after s.endpoint (call_made act)) m (connected (opening_by true pd role options private) (Some m)).stream (opens s m pd all (numbered_shared s.endpoint m pd role (config_for options private) r)).number left refl numbers
+    by (Stream m x) r left =
+        set_numbers s.endpoint (after s.endpoint (call_made act)) m (left_at s.endpoint m x) (there s.endpoint.streams m r.0) left (ap (λ (p : Peer). p.stream) (keeps_stream s.endpoint m x).peer ∙ number_at s.endpoint m numbers r.0) numbers
+
+pub told_step : (s peer : EndState) (done : List (Act Octets)) (act : Act Octets) → EndSeen s done → Rule s peer act → IsTold s done → IsTold (end_after s act) (done ++ act ∷ [])
+told_step s peer done act k rule told = record {
+  table = table_left s.endpoint act rule.0 ∙ ap (λ z. table_by z act) told.table ∙ sym (table-push done act);
+  numbers = numbered_after s act k.domains rule.0 told.numbers;
 }

@@ -1,5 +1,5 @@
 -- A number that was used is not opened again, and nothing is done on one whose stream was closed.
-use Rattle.std.proofs.Common.{◌≡◌, ◌⊎◌, ℕ, ◌+◌, ◌<◌, ◌≤◌, List, [], ◌∷◌, ◌++◌, length, Option, Some, None, Ok, Err, Bool, true, false, cond, eqb, refl, sym, ap, ◌∙◌, subst, arith, append_assoc, eqb-true, inl, inr}
+use Rattle.std.proofs.Common.{◌≡◌, ◌⊎◌, ℕ, ◌+◌, ◌<◌, ◌≤◌, List, [], ◌∷◌, ◌++◌, length, Option, Some, None, Result, Ok, Err, Bool, true, false, cond, eqb, refl, sym, ap, ◌∙◌, subst, arith, append_assoc, eqb-true, inl, inr}
 use Rattle.std.specs.List.{flat_map}
 use Rattle.std.specs.Prelude.{slice_set, slice_index_or, is_some, ◌||◌, nat_le, nat_lt, unwrap_or}
 use Rattle.std.proofs.lemmas.Bool.{eq-eqb, false≢true, true≢false}
@@ -8,9 +8,13 @@ use Rattle.std.proofs.lemmas.List.{get_or-set_other, length-set, length-replicat
 use Rattle.iw_stream.specs.Stream.{StreamState}
 use Rattle.iw_startup.specs.declared.config.Config.{Config}
 use Rattle.iw_endpoint.specs.declared.refusal.NotAtRest.{NotAtRest}
+use Rattle.iw_endpoint.specs.declared.refusal.LimitRefusal.{LimitRefusal}
+use Rattle.iw_endpoint.specs.declared.refusal.CallRefusal.TheVariants.{Refused}
+use Rattle.iw_octets.specs.declared.stag.Stag.{Stag}
+use Rattle.iw_memory.specs.Table.{next_stag}
 use Rattle.iw_endpoint.specs.Numbers.{put_at}
 use Rattle.iw_endpoint.specs.Endpoint as endpoint
-use Rattle.iw_endpoint.specs.Endpoint.{EndpointState, stream_of, stream_at, has_stream, is_taken, closed_at, number_refusal, next_number, next_refusal, next_shared_refusal, rest_refusal, no_streams, no_closed}
+use Rattle.iw_endpoint.specs.Endpoint.{EndpointState, stream_of, stream_at, has_stream, is_taken, closed_at, number_refusal, next_number, next_refusal, next_shared_refusal, limit_refusal, rest_refusal, no_streams, no_closed}
 use Rattle.iw_endpoint.specs.Isolation.{after, unless}
 use Rattle.iw_events.specs.declared.call.End.{End}
 use Rattle.iw_events.specs.declared.call.End.TheVariants.{A, B}
@@ -21,13 +25,13 @@ use Rattle.iw_events.specs.declared.act.StreamAct.{StreamAct}
 use Rattle.iw_events.specs.declared.act.StreamAct.TheVariants.{Deliver, Raw}
 use Rattle.iw_events.specs.declared.act.Entry.{Entry}
 use Rattle.iw_events.specs.declared.server.ServerAct.{ServerAct}
-use Rattle.iw_events.specs.declared.server.ServerAct.TheVariants.{Plain, Stream, OpenNext, OpenSharedNext, Read, ReadRaw, Close}
+use Rattle.iw_events.specs.declared.server.ServerAct.TheVariants.{Plain, Stream, OpenNext, OpenSharedNext, Read, ReadRaw, RegisterFor, Close}
 use Rattle.iw_events.specs.declared.server.ServerEntry.{ServerEntry}
 use Rattle.iw_laws.specs.Words.{Octets, Opening, other, openings, openings_by, stream_acts, stream_acts_by, config_for}
 use Rattle.iw_laws.specs.Words as words
 use Rattle.iw_laws.specs.Rules.{EndState, State, end_of, with_end, start, EndRule, call_made}
 use Rattle.iw_laws.specs.Servers.{Connections, told, told_by, plain_told, at_end, was_used, PlainPeerRule, ServerRule, server_after, after_server_entry, ServerFollows}
-use Rattle.iw_laws.specs.ServerLaws.{by_number, server_told, server_acts, server_acts_if, closings_by, closings, GivesOnce, ClosedIsOver}
+use Rattle.iw_laws.specs.ServerLaws.{by_number, server_told, server_acts, server_acts_if, closings_by, closings, limitings_by, limitings, GivesOnce, ClosedIsOver}
 use Rattle.iw_laws.proofs.States.{opening_by, connected, left_at, streams_after, streams_left, closed_left, granted, denied, asked}
 use Rattle.iw_laws.proofs.Ends.{there, numbered, numbered_open, numbered_shared, opening_none}
 use Rattle.iw_laws.proofs.Serving.{set_there, put_last, length-put_last, next_given, next_shared_given}
@@ -150,6 +154,7 @@ pub record OneAct (s : EndState) (act : ServerAct Octets) (n : ℕ) : Type 0 whe
   pub once : (openings n (own_told act) ≡ []) ⊎ ((length (openings n (own_told act)) ≡ 1) × (was_used (server_after s act).endpoint n ≡ true))
   pub acts : has_stream s.endpoint n ≡ false → stream_acts n (own_told act) ≡ []
   pub closes : has_stream s.endpoint n ≡ false → closings_by n act ≡ []
+  pub limits : has_stream s.endpoint n ≡ false → limitings_by n act ≡ []
   pub sound : IsSound (server_after s act).endpoint
 
 no_openings : (n : ℕ) (act : Act Octets) → openings_by n act ≡ [] → openings n (act ∷ []) ≡ []
@@ -192,6 +197,7 @@ quiet s act n k rule same tells none silent =
       once = inl (ap (openings n) tells ∙ no_openings n act none);
       acts = λ gone. ap (stream_acts n) tells ∙ no_acts n act silent;
       closes = λ gone. refl;
+      limits = λ gone. refl;
       sound = sound_same s.endpoint (after s.endpoint (call_made act)) k streams (closed_left s.endpoint act);
     }
 
@@ -206,6 +212,7 @@ of_stream s m act n k rule =
       once = inl (no_openings n (acts.Stream m act) refl);
       acts = λ gone. no_acts n (acts.Stream m act) (ap (λ b. cond b (act ∷ []) []) (apart_from s.endpoint m n rule.0 gone));
       closes = λ gone. refl;
+      limits = λ gone. refl;
       sound = sound_set s.endpoint e' m (left_at s.endpoint m act) k streams (closed_left s.endpoint (acts.Stream m act));
     }
 
@@ -230,6 +237,7 @@ picked s act m n o k rule new left tells one silent =
       once = go (eqb m n) refl streams within;
       acts = λ gone. ap (stream_acts n) tells ∙ no_acts n act silent;
       closes = λ gone. refl;
+      limits = λ gone. refl;
       sound = sound_set s.endpoint e' m (connected o (Some m)).stream k streams (closed_left s.endpoint act);
     }
   where
@@ -256,7 +264,7 @@ picked s act m n o k rule new left tells one silent =
 
 -- the number is given
 module _ (s : EndState) (act : ServerAct Octets) (told_act : Act Octets) (m n : ℕ) (o : Opening) (k : IsSound s.endpoint) (is : m ≡ length s.endpoint.streams) (tells : own_told act ≡ told_act ∷ []) (one : openings_by n told_act ≡ cond (eqb m n) (o ∷ []) [])
-    (silent : stream_acts_by n told_act ≡ []) (left : (server_after s act).endpoint ≡ endpoint.with_next s.endpoint m (connected o (Some m)).stream) (unclosed : closings_by n act ≡ []) where
+    (silent : stream_acts_by n told_act ≡ []) (left : (server_after s act).endpoint ≡ endpoint.with_next s.endpoint m (connected o (Some m)).stream) (unclosed : closings_by n act ≡ []) (unlimited : limitings_by n act ≡ []) where
   given_streams : (server_after s act).endpoint.streams ≡ put_at s.endpoint.streams (length s.endpoint.streams) (connected o (Some m)).stream
   given_streams = ap (λ (e : EndpointState). e.streams) left ∙ ap (λ j. put_at s.endpoint.streams j (connected o (Some m)).stream) is
 
@@ -286,22 +294,27 @@ module _ (s : EndState) (act : ServerAct Octets) (told_act : Act Octets) (m n : 
     once = given_once (eqb m n) refl;
     acts = λ gone. ap (stream_acts n) tells ∙ no_acts n told_act silent;
     closes = λ gone. unclosed;
+    limits = λ gone. unlimited;
     sound = record { many = omega (arith, k.many, given_size); ended = ap length given_closed ∙ k.ended };
   }
 
 -- nothing is told, and nothing changes
-unchanged_act : (s : EndState) (act : ServerAct Octets) (n : ℕ) → IsSound s.endpoint → own_told act ≡ [] → (server_after s act).endpoint ≡ s.endpoint → (has_stream s.endpoint n ≡ false → closings_by n act ≡ []) → OneAct s act n
-unchanged_act s act n k tells left unclosed = record {
+unchanged_act : (s : EndState) (act : ServerAct Octets) (n : ℕ) → IsSound s.endpoint → own_told act ≡ [] → (server_after s act).endpoint ≡ s.endpoint → (has_stream s.endpoint n ≡ false → closings_by n act ≡ []) → (has_stream s.endpoint n ≡ false → limitings_by n act ≡ []) → OneAct s act n
+unchanged_act s act n k tells left unclosed unlimited = record {
   stays = same_stays s.endpoint (server_after s act).endpoint n (ap (λ (e : EndpointState). e.streams) left) (ap (λ (e : EndpointState). e.closed) left);
   opens = λ used. ap (openings n) tells ∙ none_opened n;
   once = inl (ap (openings n) tells ∙ none_opened n);
   acts = λ gone. ap (stream_acts n) tells ∙ none_done n;
   closes = unclosed;
+  limits = unlimited;
   sound = sound_same s.endpoint (server_after s act).endpoint k (ap (λ (e : EndpointState). e.streams) left) (ap (λ (e : EndpointState). e.closed) left);
 }
 
 unclosed_other : (s : EndState) (m n : ℕ) (refused : Option NotAtRest) → has_stream s.endpoint m ≡ true → has_stream s.endpoint n ≡ false → closings_by n (Close m refused) ≡ []
 unclosed_other s m n refused there gone = ap (λ b. cond b (refused ∷ []) []) (apart_from s.endpoint m n there gone)
+
+unlimited_other : (s : EndState) (m n : ℕ) (answer : Result Stag LimitRefusal) → has_stream s.endpoint m ≡ true → has_stream s.endpoint n ≡ false → cond (eqb m n) (answer ∷ []) [] ≡ []
+unlimited_other s m n answer there gone = ap (λ b. cond b (answer ∷ []) []) (apart_from s.endpoint m n there gone)
 
 -- an opening that is refused
 refused_act : (s : EndState) (act : Act Octets) (n : ℕ) → IsSound s.endpoint → EndRule s.endpoint act → streams_after s.endpoint act ≡ s.endpoint.streams → plain_told (λ j. j) act ≡ [] → OneAct s (Plain act) n
@@ -313,6 +326,7 @@ refused_act s act n k rule same tells =
       once = inl (ap (openings n) tells ∙ none_opened n);
       acts = λ gone. ap (stream_acts n) tells ∙ none_done n;
       closes = λ gone. refl;
+      limits = λ gone. refl;
       sound = sound_same s.endpoint (after s.endpoint (call_made act)) k streams (closed_left s.endpoint act);
     }
 
@@ -331,38 +345,57 @@ plain_act own other s p (Open m pd role options private None) n k rule =
     picked s (Open m pd role options private None) m n (opening_by false pd role options private) k rule.0 (numbered s.endpoint m pd (numbered_open s.endpoint m pd role (config_for options private) rule.0)) refl refl refl refl
 plain_act own other s p (OpenShared m pd role options private None) n k rule =
     picked s (OpenShared m pd role options private None) m n (opening_by true pd role options private) k rule.0 (numbered s.endpoint m pd (numbered_shared s.endpoint m pd role (config_for options private) rule.0)) refl refl refl refl
-plain_act own other s p (acts.Stream m act) n k rule = let x = of_stream s m act n k rule.0 in record { stays = x.stays; opens = x.opens; once = x.once; acts = x.acts; closes = x.closes; sound = x.sound }
+plain_act own other s p (acts.Stream m act) n k rule = let x = of_stream s m act n k rule.0 in record { stays = x.stays; opens = x.opens; once = x.once; acts = x.acts; closes = x.closes; limits = x.limits; sound = x.sound }
 
 -- each act of an end does so to each number
 one_act : (own other : ℕ → ℕ) (s p : EndState) (act : ServerAct Octets) (n : ℕ) → IsSound s.endpoint → ServerRule own other s p act → OneAct s act n
 one_act own other s p (Plain act) n k rule = plain_act own other s p act n k rule
 one_act own other s p (Stream m act) n k rule = of_stream s m act n k rule.0
 one_act own other s p (Read m from number octets delivery) n k rule =
-    let x = of_stream s m (Deliver from number octets delivery) n k rule.0.1 in record { stays = x.stays; opens = x.opens; once = x.once; acts = x.acts; closes = x.closes; sound = x.sound }
+    let x = of_stream s m (Deliver from number octets delivery) n k rule.0.1 in record { stays = x.stays; opens = x.opens; once = x.once; acts = x.acts; closes = x.closes; limits = x.limits; sound = x.sound }
 one_act own other s p (ReadRaw m number octets delivery) n k rule =
-    let x = of_stream s m (Raw number octets delivery) n k rule.0.1 in record { stays = x.stays; opens = x.opens; once = x.once; acts = x.acts; closes = x.closes; sound = x.sound }
+    let x = of_stream s m (Raw number octets delivery) n k rule.0.1 in record { stays = x.stays; opens = x.opens; once = x.once; acts = x.acts; closes = x.closes; limits = x.limits; sound = x.sound }
 one_act own other s p (OpenNext pd role options private (Ok m)) n k rule =
     let e : EndpointState = s.endpoint in
     let config : Config = config_for options private in
     let h = granted (next_refusal e (next_number e) pd role config) m (unwrap_or (next_number e) 0) rule.0 in
     given_act s (OpenNext pd role options private (Ok m)) (Open m pd role options private None) m n (opening_by false pd role options private) k (h.1 ∙ (next_given e pd role config h.0).number) refl refl refl
-    (ap (λ r. unless r e (endpoint.opened_next e (next_number e) pd role config)) (sym h.0) ∙ ap (λ j. endpoint.with_next e j (endpoint.new_stream j pd role config)) (sym h.1)) refl
+    (ap (λ r. unless r e (endpoint.opened_next e (next_number e) pd role config)) (sym h.0) ∙ ap (λ j. endpoint.with_next e j (endpoint.new_stream j pd role config)) (sym h.1)) refl refl
 one_act own other s p (OpenNext pd role options private (Err r)) n k rule =
     let e : EndpointState = s.endpoint in
     let config : Config = config_for options private in
     unchanged_act s (OpenNext pd role options private (Err r)) n k refl
-    (ap (λ z. unless z e (endpoint.opened_next e (next_number e) pd role config)) (sym (denied (next_refusal e (next_number e) pd role config) r (unwrap_or (next_number e) 0) rule.0))) (λ gone. refl)
+    (ap (λ z. unless z e (endpoint.opened_next e (next_number e) pd role config)) (sym (denied (next_refusal e (next_number e) pd role config) r (unwrap_or (next_number e) 0) rule.0))) (λ gone. refl) (λ gone. refl)
 one_act own other s p (OpenSharedNext pd role options private (Ok m)) n k rule =
     let e : EndpointState = s.endpoint in
     let config : Config = config_for options private in
     let h = granted (next_shared_refusal e (next_number e) pd role config) m (unwrap_or (next_number e) 0) rule.0 in
     given_act s (OpenSharedNext pd role options private (Ok m)) (OpenShared m pd role options private None) m n (opening_by true pd role options private) k (h.1 ∙ (next_shared_given e pd role config h.0).number) refl refl refl
-    (ap (λ r. unless r e (endpoint.opened_shared_next e (next_number e) pd role config)) (sym h.0) ∙ ap (λ j. endpoint.with_next e j (endpoint.new_shared j pd role config)) (sym h.1)) refl
+    (ap (λ r. unless r e (endpoint.opened_shared_next e (next_number e) pd role config)) (sym h.0) ∙ ap (λ j. endpoint.with_next e j (endpoint.new_shared j pd role config)) (sym h.1)) refl refl
 one_act own other s p (OpenSharedNext pd role options private (Err r)) n k rule =
     let e : EndpointState = s.endpoint in
     let config : Config = config_for options private in
     unchanged_act s (OpenSharedNext pd role options private (Err r)) n k refl
-    (ap (λ z. unless z e (endpoint.opened_shared_next e (next_number e) pd role config)) (sym (denied (next_shared_refusal e (next_number e) pd role config) r (unwrap_or (next_number e) 0) rule.0))) (λ gone. refl)
+    (ap (λ z. unless z e (endpoint.opened_shared_next e (next_number e) pd role config)) (sym (denied (next_shared_refusal e (next_number e) pd role config) r (unwrap_or (next_number e) 0) rule.0))) (λ gone. refl) (λ gone. refl)
+one_act own other s p (RegisterFor m base rights octets (Ok stag)) n k rule =
+    let e : EndpointState = s.endpoint in
+    let e' : EndpointState = endpoint.limited e m base octets rights in
+    let h = granted (limit_refusal e m base (length octets)) stag (next_stag e.table (stream_at e m).domain) rule.0.1 in
+    let left : (server_after s (RegisterFor m base rights octets (Ok stag))).endpoint ≡ e' = ap (λ r. unless r e e') (sym h.0) in
+    record {
+      stays = subst (λ z. Stays e z n) (sym left) (same_stays e e' n refl refl);
+      opens = λ used. none_opened n;
+      once = inl (none_opened n);
+      acts = λ gone. none_done n;
+      closes = λ gone. refl;
+      limits = λ gone. unlimited_other s m n (Ok stag) rule.0.0 gone;
+      sound = subst IsSound (sym left) (sound_same e e' k refl refl);
+    }
+one_act own other s p (RegisterFor m base rights octets (Err r)) n k rule =
+    let e : EndpointState = s.endpoint in
+    unchanged_act s (RegisterFor m base rights octets (Err r)) n k refl
+    (ap (λ z. unless z e (endpoint.limited e m base octets rights)) (sym (denied (limit_refusal e m base (length octets)) (Refused r) (next_stag e.table (stream_at e m).domain) rule.0.1))) (λ gone. refl)
+    (λ gone. unlimited_other s m n (Err r) rule.0.0 gone)
 one_act own other s p (Close m None) n k rule =
     let e : EndpointState = s.endpoint in
     let left : (server_after s (Close m None)).endpoint ≡ endpoint.after_close e m = asked e (endpoint.after_close e m) m rest_refusal None rule.0.0 rule.0.1 in
@@ -373,10 +406,11 @@ one_act own other s p (Close m None) n k rule =
       once = inl (none_opened n);
       acts = λ gone. none_done n;
       closes = λ gone. unclosed_other s m n None rule.0.0 gone;
+      limits = λ gone. refl;
       sound = subst IsSound (sym left) (record { many = omega (arith, k.many, length-set e.streams m None); ended = length-set e.closed m (Some (stream_at e m).domain) ∙ k.ended });
     }
 one_act own other s p (Close m (Some r)) n k rule =
-    unchanged_act s (Close m (Some r)) n k refl (asked s.endpoint (endpoint.after_close s.endpoint m) m rest_refusal (Some r) rule.0.0 rule.0.1) (λ gone. unclosed_other s m n (Some r) rule.0.0 gone)
+    unchanged_act s (Close m (Some r)) n k refl (asked s.endpoint (endpoint.after_close s.endpoint m) m rest_refusal (Some r) rule.0.0 rule.0.1) (λ gone. unclosed_other s m n (Some r) rule.0.0 gone) (λ gone. refl)
 
 -- ---- the acts of one end, one after another
 
@@ -462,12 +496,12 @@ opened_once n s (act ∷ done) k follows = by x.once (opened_once n (server_afte
     by (inr one) later = omega (arith, both, one.0, ap length (never_opened n (server_after s act) done x.sound follows.1 one.1))
 
 -- a number whose stream was closed is not named
-never_named : (n : ℕ) (s : EndState) (done : List (ServerAct Octets)) → IsSound s.endpoint → OwnFollows s done → was_used s.endpoint n ≡ true → has_stream s.endpoint n ≡ false → (stream_acts n (told_own done) ≡ []) × (closings n done ≡ [])
-never_named n s [] k follows used gone = (none_done n, refl)
+never_named : (n : ℕ) (s : EndState) (done : List (ServerAct Octets)) → IsSound s.endpoint → OwnFollows s done → was_used s.endpoint n ≡ true → has_stream s.endpoint n ≡ false → (stream_acts n (told_own done) ≡ []) × (closings n done ≡ []) × (limitings n done ≡ [])
+never_named n s [] k follows used gone = (none_done n, refl, refl)
 never_named n s (act ∷ done) k follows used gone =
     let x : OneAct s act n = one_act follows.0.0 follows.0.1 s follows.0.2 act n k follows.0.3 in
     let rest = never_named n (server_after s act) done x.sound follows.1 (x.stays.used used) (x.stays.gone used gone) in
-    (acts-more n (own_told act) (told_own done) ∙ (λ i. x.acts gone i ++ rest.0 i), λ i. x.closes gone i ++ rest.1 i)
+    (acts-more n (own_told act) (told_own done) ∙ (λ i. x.acts gone i ++ rest.0 i), λ i. x.closes gone i ++ rest.1 i, λ i. x.limits gone i ++ rest.2 i)
 
 -- ---- the laws
 
@@ -521,4 +555,5 @@ closed_is_over name trace follows past future x n is =
       opened = ap (openings n) (acts_told x future) ∙ never_opened n (server_after s (Close n None)) (server_acts x future) a.sound p.2.1 used;
       done = ap (stream_acts n) (acts_told x future) ∙ later.0;
       closed = later.1;
+      limited = later.2;
     }

@@ -115,15 +115,17 @@ use Rattle.iw_laws.proofs.Messages.{items_are, start_frame_is, open_is, sequence
 use Rattle.iw_laws.proofs.Heard.{IsHeard, hears_all}
 use Rattle.iw_laws.proofs.Delivered.{whole_of, received_prefix, writes_covered}
 use Rattle.iw_laws.proofs.Placed.{reads_answered}
-use Rattle.iw_laws.proofs.Ends.{there, EndSeen as EndKept, unopened, closed_none}
+use Rattle.iw_laws.proofs.Ends.{there, EndSeen as EndKept, peer_told, unopened, closed_none}
 use Rattle.iw_laws.specs.Early.{JudgesEarly, ChecksOnce}
-use Rattle.iw_laws.specs.Once.{AreOnce, PlacesOnce, spans_placed}
+use Rattle.iw_laws.specs.Once.{NonePlacedTwice, PlacesOnce, spans_placed}
 use Rattle.iw_laws.proofs.EarlyLaws.{judges_early, checks_once}
+use Rattle.iw_stream.specs.Judging.{Standing}
 use Rattle.iw_laws.proofs.Onces.{are_once}
+use Rattle.iw_laws.proofs.Busy.{TurnsStreamBySome, TurnsBySome}
 use Rattle.iw_laws.proofs.Placements.{placements}
 use Rattle.iw_laws.proofs.Releases.{left_acts, left_apart}
-use Rattle.iw_laws.proofs.Whole.{Seen as BothSeen, seen_at, follows_split}
-use Rattle.iw_laws.proofs.Runs.{Run, PlainRule, PlainRuleIn}
+use Rattle.iw_laws.proofs.Whole.{Seen as BothSeen, seen_at, follows_split, told_onward, unsaid, told_first}
+use Rattle.iw_laws.proofs.Runs.{Run, ToldRun, Moment, PlainRule, PlainRuleIn, seen_then, run_in}
 use Rattle.iw_laws.specs.Plain.{PlainAnswered, ShowsRegions}
 
 -- ---- honest streams
@@ -149,7 +151,7 @@ prefix_of past w k x n honest =
     received_prefix (held p.own) (tale n (acts x past)) (held p.own_peer) (tale n (acts (other x) past)) p.own.own.emits p.own_peer.own.track (heard past w k x n honest) (p.out (honest.calm (other x))) p.own_peer.own.fills
 
 pub in_order : (trace : List (Entry Octets)) → Run trace → InOrder trace
-in_order trace run past future is x n honest = prefix_of past (run.left past) (run.seen past future is) x n honest
+in_order trace run past future is x n honest = let m = run past future is in prefix_of past m.state (seen_then past future m) x n honest
 
 -- what was placed for Writes is what was posted, as far as Sends were received
 covers : (past : List (Entry Octets)) (w : State) → BothSeen past w → (x : End) (n : ℕ) → IsHonest n past → (cell : Cell)
@@ -159,7 +161,7 @@ covers past w k x n honest cell =
     writes_covered (held p.own) (tale n (acts x past)) (held p.own_peer) (tale n (acts (other x) past)) p.own.own.emits p.own_peer.own.track (heard past w k x n honest) (p.out (honest.calm (other x))) cell
 
 pub covered : (trace : List (Entry Octets)) → Run trace → Covered trace
-covered trace run past future is x n honest cell = covers past (run.left past) (run.seen past future is) x n honest cell
+covered trace run past future is x n honest cell = let m = run past future is in covers past m.state (seen_then past future m) x n honest cell
 
 -- ---- Reads of an honest stream
 
@@ -182,7 +184,7 @@ answers_reads past w k x n honest =
     reads_answered (held p.own) (tale n (acts x past)) (held p.own_peer) (tale n (acts (other x) past)) p.own.own.emits p.own.own.track p.own_peer.own.emits p.own_peer.own.track p.own_peer.own.doing.answered there home out back
 
 pub answering_all : (trace : List (Entry Octets)) → Run trace → Answering trace
-answering_all trace run past future is x n honest = answers_reads past (run.left past) (run.seen past future is) x n honest
+answering_all trace run past future is x n honest = let m = run past future is in answers_reads past m.state (seen_then past future m) x n honest
 
 -- ---- what changes
 
@@ -213,23 +215,37 @@ on_stream P done s peer (Pool pd len refused) rule h = tt
 on_stream P done s peer (Unpool pd answer) rule h = tt
 on_stream P done s peer (OpenShared n pd role options private refused) rule h = tt
 
--- a law of each entry of a stream, by the state before it
-each_stream : (P : List (Act Octets) → ℕ → StreamAct Octets → Type 0) (trace : List (Entry Octets)) → Run trace
-    → ((done : List (Act Octets)) (s : EndState) (n : ℕ) (c : Connected) (act : StreamAct Octets) → EndKept s done → peer_of c.stream ≡ peer_at n done → StreamRule s.endpoint.table c.stream act
-    → Own (opening_of n done) c (tale n done) → P done n act) → AtEach (OnStream P) trace
-each_stream P trace run one past e future is =
-    let w : State = run.left past in
-    let m : BothSeen past w = run.seen past (e ∷ future) is in
-    let rule : PlainRuleIn w e = run.ruled past e future is in
-    let s : EndState = end_of e.end w in
-    on_stream P (acts e.end past) s (end_of (other e.end) w) e.act rule (λ n act opened rule.
-    let h = (m.pairs e.end n).own in
+-- one act of a stream, by the state before it
+pub at_stream : (P : List (Act Octets) → ℕ → StreamAct Octets → Type 0) (past : List (Entry Octets)) (e : Entry Octets) (future : List (Entry Octets)) (m : Moment past (e ∷ future))
+    → ((n : ℕ) (c : Connected) (act : StreamAct Octets) → has_stream (end_of e.end m.state).endpoint n ≡ true → peer_of c.stream ≡ peer_of (stream_at (end_of e.end m.state).endpoint n) → StreamRule (end_of e.end m.state).endpoint.table c.stream act
+    → Own (opening_of n (acts e.end past)) c (tale n (acts e.end past)) → P (acts e.end past) n act) → OnStream P (acts e.end past) e.act
+at_stream P past e future m one =
+    let s : EndState = end_of e.end m.state in
+    on_stream P (acts e.end past) s (end_of (other e.end) m.state) e.act m.next (λ n act opened rule.
+    let h = ((seen_then past (e ∷ future) m).pairs e.end n).own in
     let there = left_acts s.endpoint.table (connected_at s n).stream h.stream (tale n (acts e.end past)) act h.is_left h.own.track rule in
-    one (acts e.end past) s n (held h) act (m.ends e.end) (sym (ap peer_of (left_apart h.is_left)) ∙ lent_peer (pool_of s.endpoint (stream_at s.endpoint n).domain) (stream_at s.endpoint n) ∙ (m.ends e.end).peer n opened) there.0 h.own)
+    one n (held h) act opened (sym (ap peer_of (left_apart h.is_left)) ∙ lent_peer (pool_of s.endpoint (stream_at s.endpoint n).domain) (stream_at s.endpoint n)) there.0 h.own)
 
-pub within_all : (trace : List (Entry Octets)) → Run trace → Within trace
-within_all trace run = each_stream WithinStream trace run (λ done s n c act k peer rule own.
-    within_stream done n (peer_of c.stream) s.endpoint.table act peer k.table (within (opening_of n done) s.endpoint.table c (tale n done) act (told s.endpoint.table c.stream act (sound c.stream (tale n done) own.track) rule) own))
+-- a law of each entry of a stream, whatever the regions are
+each_stream : (P : List (Act Octets) → ℕ → StreamAct Octets → Type 0) (trace : List (Entry Octets)) → Run trace
+    → ((done : List (Act Octets)) (table : Table) (n : ℕ) (c : Connected) (act : StreamAct Octets) → StreamRule table c.stream act → Own (opening_of n done) c (tale n done) → P done n act) → AtEach (OnStream P) trace
+each_stream P trace run one past e future is =
+    let m : Moment past (e ∷ future) = run past (e ∷ future) is in
+    at_stream P past e future m (λ n c act opened peer rule own. one (acts e.end past) (end_of e.end m.state).endpoint.table n c act rule own)
+
+-- where they are as they were told
+each_told : (P : List (Act Octets) → ℕ → StreamAct Octets → Type 0) (trace : List (Entry Octets)) → ToldRun trace
+    → ((done : List (Act Octets)) (table : Table) (n : ℕ) (c : Connected) (act : StreamAct Octets) → table ≡ table_after done → peer_of c.stream ≡ peer_at n done → StreamRule table c.stream act
+    → Own (opening_of n done) c (tale n done) → P done n act) → AtEach (OnStream P) trace
+each_told P trace run one past e future is =
+    let m = run past (e ∷ future) is in
+    let s : EndState = end_of e.end m.0.state in
+    at_stream P past e future m.0 (λ n c act opened peer rule own.
+    one (acts e.end past) s.endpoint.table n c act (m.1 e.end).table (peer ∙ peer_told s (acts e.end past) n (m.0.keeps.ends e.end) (m.1 e.end) opened) rule own)
+
+pub within_all : (trace : List (Entry Octets)) → ToldRun trace → Within trace
+within_all trace run = each_told WithinStream trace run (λ done table n c act regions peer rule own.
+    within_stream done n (peer_of c.stream) table act peer regions (within (opening_of n done) table c (tale n done) act (told table c.stream act (sound c.stream (tale n done) own.track) rule) own))
 
 -- ---- what goes out
 
@@ -263,7 +279,7 @@ first_frames past w k x n =
     framed s t k us fs (Spoken b) = inr (b ∙ sym (sequence_is s t k (us ++ fs)))
 
 pub emission : (trace : List (Entry Octets)) → Run trace → Emission trace
-emission trace run past future is x n = first_frames past (run.left past) (run.seen past future is) x n
+emission trace run past future is x n = let m = run past future is in first_frames past m.state (seen_then past future m) x n
 
 -- where no part of a message was begun, and no request waits, what was sent is all frames of messages and responses
 all_frames : (o : Opening) (c : Connected) (t : Tale) (own : Own o c t) → ended c.stream ≡ false → owes_frame c.stream ≡ false → c.stream.queue.offset ≡ 0 → c.stream.asked.unanswered ≡ [] → own.emits.left ≡ [] → AreAllFrames t.story t.sent own.emits.counts.first
@@ -389,7 +405,7 @@ nothing_stream o c done queue table (Work step) rule own = tt
 nothing_stream o c done queue table Break rule own = tt
 
 pub nothing_at_rest : (trace : List (Entry Octets)) → Run trace → NothingOnlyAtRest trace
-nothing_at_rest trace run = each_stream NothingStream trace run (λ done s n c act k peer rule own. nothing_stream (opening_of n done) c (stream_acts n done) (receiving_of n done) s.endpoint.table act rule own)
+nothing_at_rest trace run = each_stream NothingStream trace run (λ done table n c act rule own. nothing_stream (opening_of n done) c (stream_acts n done) (receiving_of n done) table act rule own)
 
 -- a frame stands behind what was sent, and is the start-up frame or that of a part, as large as was set
 -- how large the frame of a part is
@@ -510,7 +526,7 @@ shown_sized o c done queue table (Work step) rule own = tt
 shown_sized o c done queue table Break rule own = tt
 
 pub sized_all : (trace : List (Entry Octets)) → Run trace → Sized trace
-sized_all trace run = each_stream SizedStream trace run (λ done s n c act k peer rule own. shown_sized (opening_of n done) c (stream_acts n done) (receiving_of n done) s.endpoint.table act rule own)
+sized_all trace run = each_stream SizedStream trace run (λ done table n c act rule own. shown_sized (opening_of n done) c (stream_acts n done) (receiving_of n done) table act rule own)
 
 may_send : (o : Opening) (c : Connected) (done : List (StreamAct Octets)) (queue : Receiving) → MaySpeak c.stream → Own o c (tale_with o done queue) → MaySend (has_ended_by done) (story_with o done queue)
 may_send o c done queue m own =
@@ -559,175 +575,187 @@ shown_allowed o c done queue table (Work step) rule own = tt
 shown_allowed o c done queue table Break rule own = tt
 
 pub speaks_all : (trace : List (Entry Octets)) → Run trace → Speaks trace
-speaks_all trace run = each_stream SpeaksStream trace run (λ done s n c act k peer rule own. shown_allowed (opening_of n done) c (stream_acts n done) (receiving_of n done) s.endpoint.table act rule own)
+speaks_all trace run = each_stream SpeaksStream trace run (λ done table n c act rule own. shown_allowed (opening_of n done) c (stream_acts n done) (receiving_of n done) table act rule own)
 
 -- ---- the turns of frames
 
-same_standing : (done : List (Act Octets)) (n : ℕ) (s : EndState) (c : Connected) → EndKept s done → peer_of c.stream ≡ peer_at n done → Own (opening_of n done) c (tale n done) → work.standing s.endpoint.table c.stream ≡ standing n done
-same_standing done n s c k peer own =
-    λ i. record { table = k.table i; peer = peer i; receiving = sym own.track.receiving i; reads = sym own.emits.asks.reads i; asked = sym own.emits.asks.asked i }
+pub standing_is : (done : List (Act Octets)) (n : ℕ) (table : Table) (c : Connected) → Own (opening_of n done) c (tale n done) → work.standing table c.stream ≡ record (standing n done) { table = table; peer = peer_of c.stream }
+standing_is done n table c own = λ i. record { table = table; peer = peer_of c.stream; receiving = sym own.track.receiving i; reads = sym own.emits.asks.reads i; asked = sym own.emits.asks.asked i }
 
-turns_stream : (done : List (Act Octets)) (n : ℕ) (s : EndState) (c : Connected) (act : StreamAct Octets) → EndKept s done → peer_of c.stream ≡ peer_at n done → StreamRule s.endpoint.table c.stream act
-    → Own (opening_of n done) c (tale n done) → TurnsStream done n act
-turns_stream done n s c (Work step) k peer rule own =
-    subst (λ z. TurnsSeen (has_ended_by (stream_acts n done)) (story_of n done) z step) (same_standing done n s c k peer own) (answers s.endpoint.table c.stream (tale n done) step rule own.track own.ended)
-turns_stream done n s c (Post m refused) k peer rule own = tt
-turns_stream done n s c (Recv len refused) k peer rule own = tt
-turns_stream done n s c (Emit shown) k peer rule own = tt
-turns_stream done n s c (Deliver from number octets delivery) k peer rule own = tt
-turns_stream done n s c (Raw number octets delivery) k peer rule own = tt
-turns_stream done n s c (First number refused) k peer rule own = tt
-turns_stream done n s c (Mulpdu size refused) k peer rule own = tt
-turns_stream done n s c (Accept private answer) k peer rule own = tt
-turns_stream done n s c (Reject private refused) k peer rule own = tt
-turns_stream done n s c Break k peer rule own = tt
+-- where the regions, and the number of the stream, are those that were told
+same_standing : (done : List (Act Octets)) (n : ℕ) (table : Table) (c : Connected) → table ≡ table_after done → peer_of c.stream ≡ peer_at n done → Own (opening_of n done) c (tale n done) → work.standing table c.stream ≡ standing n done
+same_standing done n table c regions peer own = standing_is done n table c own ∙ (λ i. record (standing n done) { table = regions i; peer = peer i })
 
-pub turns_all : (trace : List (Entry Octets)) → Run trace → Turns trace
-turns_all trace run = each_stream TurnsStream trace run turns_at
+abbrev pub TurnsIn : Standing → List (Act Octets) → ℕ → StreamAct Octets → Type 0
+TurnsIn s done n act = OnSome (TurnsSeen (has_ended_by (stream_acts n done)) (story_of n done) s) (deed act).step
+
+pub turns_stream : (done : List (Act Octets)) (n : ℕ) (table : Table) (c : Connected) (act : StreamAct Octets) → StreamRule table c.stream act → Own (opening_of n done) c (tale n done) → TurnsIn (work.standing table c.stream) done n act
+turns_stream done n table c (Work step) rule own = answers table c.stream (tale n done) step rule own.track own.ended
+turns_stream done n table c (Post m refused) rule own = tt
+turns_stream done n table c (Recv len refused) rule own = tt
+turns_stream done n table c (Emit shown) rule own = tt
+turns_stream done n table c (Deliver from number octets delivery) rule own = tt
+turns_stream done n table c (Raw number octets delivery) rule own = tt
+turns_stream done n table c (First number refused) rule own = tt
+turns_stream done n table c (Mulpdu size refused) rule own = tt
+turns_stream done n table c (Accept private answer) rule own = tt
+turns_stream done n table c (Reject private refused) rule own = tt
+turns_stream done n table c Break rule own = tt
+
+pub turns_all : (trace : List (Entry Octets)) → ToldRun trace → Turns trace
+turns_all trace run = each_told TurnsStream trace run (λ done table n c act regions peer rule own. subst (λ z. TurnsIn z done n act) (same_standing done n table c regions peer own) (turns_stream done n table c act rule own))
+
+by_some : (done : List (Act Octets)) (n : ℕ) (table : Table) (peer : Peer) (act : StreamAct Octets) → TurnsIn (record (standing n done) { table = table; peer = peer }) done n act → TurnsStreamBySome done n act
+by_some done n table peer act = go (deed act).step
   where
-    turns_at : (done : List (Act Octets)) (s : EndState) (n : ℕ) (c : Connected) (act : StreamAct Octets) → EndKept s done → peer_of c.stream ≡ peer_at n done → StreamRule s.endpoint.table c.stream act
-        → Own (opening_of n done) c (tale n done) → TurnsStream done n act
-    turns_at done s n c act k peer rule own = turns_stream done n s c act k peer rule own
+    go : (o : Option (Seen Octets)) → OnSome (TurnsSeen (has_ended_by (stream_acts n done)) (story_of n done) (record (standing n done) { table = table; peer = peer })) o
+        → OnSome (λ step. (t : Table) × (p : Peer) × TurnsSeen (has_ended_by (stream_acts n done)) (story_of n done) (record (standing n done) { table = t; peer = p }) step) o
+    go None h = tt
+    go (Some step) h = (table, peer, h)
+
+pub turns_by_some : (trace : List (Entry Octets)) → Run trace → TurnsBySome trace
+turns_by_some trace run = each_stream TurnsStreamBySome trace run (λ done table n c act rule own.
+    by_some done n table (peer_of c.stream) act (subst (λ z. TurnsIn z done n act) (standing_is done n table c own) (turns_stream done n table c act rule own)))
 
 -- ---- what is fetched
 
-fetch_shown : (done : List (Act Octets)) (n : ℕ) (s : EndState) (c : Connected) (act : StreamAct Octets) → EndKept s done → peer_of c.stream ≡ peer_at n done → StreamRule s.endpoint.table c.stream act → Own (opening_of n done) c (tale n done)
-    → OnSome (FetchShown (story_of n done) (work.standing s.endpoint.table c.stream) (size_set (stream_acts n done))) (deed act).shown
-fetch_shown done n s c (Emit (Fetched from frame stag to octets)) k peer rule own =
+pub fetch_shown : (done : List (Act Octets)) (n : ℕ) (table : Table) (c : Connected) (act : StreamAct Octets) → StreamRule table c.stream act → Own (opening_of n done) c (tale n done)
+    → OnSome (FetchShown (story_of n done) (work.standing table c.stream) (size_set (stream_acts n done))) (deed act).shown
+fetch_shown done n table c (Emit (Fetched from frame stag to octets)) rule own =
     let t : Tale = tale n done in
-    let w = answers_part s.endpoint.table c.stream t from frame stag to octets (emits_as s.endpoint.table c.stream (Fetched from frame stag to octets) rule) own.emits.asks in
-    let p = emits_as s.endpoint.table c.stream (Fetched from frame stag to octets) rule in
+    let w = answers_part table c.stream t from frame stag to octets (emits_as table c.stream (Fetched from frame stag to octets) rule) own.emits.asks in
+    let p = emits_as table c.stream (Fetched from frame stag to octets) rule in
     record {
       oldest = w.oldest;
       waits = record { others = w.others; is = ap (λ (z : Requested). z.unanswered) own.emits.asks.asked ∙ w.waiting };
       source = w.stag_is;
       place = w.to_is;
       asked_for = w.within;
-      allowed = allows s.endpoint.table (peer_of c.stream) stag to (length octets) rights.Read w.admitted;
+      allowed = allows table (peer_of c.stream) stag to (length octets) rights.Read w.admitted;
       stand = w.stand;
       carries = w.frame_is
           ∙ (λ i. frame_octets (sending (sym own.track.begins.start i)) (sym p.from_is i - first_place_out (sym own.track.begins.start i)) (segment_octets (response_segment w.oldest.request (length (story_of n done).begun) (w.last_is i) octets)));
     }
-fetch_shown done n s c (Emit (Denied fault)) k peer rule own =
+fetch_shown done n table c (Emit (Denied fault)) rule own =
     let t : Tale = tale n done in
-    let p = emits_as s.endpoint.table c.stream (Denied fault) rule in
+    let p = emits_as table c.stream (Denied fault) rule in
     let w = part_is_of c.stream p.part p.is_due in
     let fetched = own.emits.asks.fetched in
     record {
       oldest = w.oldest;
       waits = record { others = w.others; is = ap (λ (z : Requested). z.unanswered) own.emits.asks.asked ∙ w.waiting };
-      denied = (λ i. reading_fault s.endpoint.table (peer_of c.stream) w.oldest.request.source (w.oldest.request.source_to + sym fetched i) (min (w.oldest.request.size - sym fetched i) (sym own.emits.size i - 14)))
-          ∙ ap (fetch_fault s.endpoint.table (peer_of c.stream)) (sym w.is) ∙ p.denied;
+      denied = (λ i. reading_fault table (peer_of c.stream) w.oldest.request.source (w.oldest.request.source_to + sym fetched i) (min (w.oldest.request.size - sym fetched i) (sym own.emits.size i - 14)))
+          ∙ ap (fetch_fault table (peer_of c.stream)) (sym w.is) ∙ p.denied;
     }
-fetch_shown done n s c (Emit (Frame from octets)) k peer rule own =
-    frame_plain s.endpoint.table c.stream (tale n done) from octets rule own.track.begins.start own.sent own.emits
-fetch_shown done n s c (Emit Nothing) k peer rule own = tt
-fetch_shown done n s c (Post m refused) k peer rule own = tt
-fetch_shown done n s c (Recv len refused) k peer rule own = tt
-fetch_shown done n s c (Deliver from number octets delivery) k peer rule own = tt
-fetch_shown done n s c (Raw number octets delivery) k peer rule own = tt
-fetch_shown done n s c (First number refused) k peer rule own = tt
-fetch_shown done n s c (Mulpdu size refused) k peer rule own = tt
-fetch_shown done n s c (Accept private answer) k peer rule own = tt
-fetch_shown done n s c (Reject private refused) k peer rule own = tt
-fetch_shown done n s c (Work step) k peer rule own = tt
-fetch_shown done n s c Break k peer rule own = tt
+fetch_shown done n table c (Emit (Frame from octets)) rule own =
+    frame_plain table c.stream (tale n done) from octets rule own.track.begins.start own.sent own.emits
+fetch_shown done n table c (Emit Nothing) rule own = tt
+fetch_shown done n table c (Post m refused) rule own = tt
+fetch_shown done n table c (Recv len refused) rule own = tt
+fetch_shown done n table c (Deliver from number octets delivery) rule own = tt
+fetch_shown done n table c (Raw number octets delivery) rule own = tt
+fetch_shown done n table c (First number refused) rule own = tt
+fetch_shown done n table c (Mulpdu size refused) rule own = tt
+fetch_shown done n table c (Accept private answer) rule own = tt
+fetch_shown done n table c (Reject private refused) rule own = tt
+fetch_shown done n table c (Work step) rule own = tt
+fetch_shown done n table c Break rule own = tt
 
-pub fetched_all : (trace : List (Entry Octets)) → Run trace → AtEach (OnStream FetchStream) trace
-fetched_all trace run = each_stream FetchStream trace run (λ done s n c act k peer rule own.
-    subst (λ z. OnSome (FetchShown (story_of n done) z (size_set (stream_acts n done))) (deed act).shown) (same_standing done n s c k peer own) (fetch_shown done n s c act k peer rule own))
+pub fetched_all : (trace : List (Entry Octets)) → ToldRun trace → AtEach (OnStream FetchStream) trace
+fetched_all trace run = each_told FetchStream trace run (λ done table n c act regions peer rule own.
+    subst (λ z. OnSome (FetchShown (story_of n done) z (size_set (stream_acts n done))) (deed act).shown) (same_standing done n table c regions peer own) (fetch_shown done n table c act rule own))
 
 -- ---- Reads that are outstanding
 
 pub few_reads : (trace : List (Entry Octets)) → Run trace → FewReads trace
 few_reads trace run past future is x n =
-    let own = ((run.seen past future is).pairs x n).own.own in
+    let own = ((seen_then past future (run past future is)).pairs x n).own.own in
     omega (arith, own.emits.asks.few, ap length own.emits.asks.reads, ap most_reads_in own.track.begins.start)
 
 -- ---- finished messages
 
-finished_stream : (done : List (Act Octets)) (n : ℕ) (s : EndState) (c : Connected) (act : StreamAct Octets) → StreamRule s.endpoint.table c.stream act → Own (opening_of n done) c (tale n done) → FinishedStream done n act
-finished_stream done n s c (Work (seen.Done kind)) rule own =
-    let d = (sees s.endpoint.table c.stream (sound c.stream (tale n done) own.track) (seen.Done kind) rule).0 in
+finished_stream : (done : List (Act Octets)) (n : ℕ) (table : Table) (c : Connected) (act : StreamAct Octets) → StreamRule table c.stream act → Own (opening_of n done) c (tale n done) → FinishedStream done n act
+finished_stream done n table c (Work (seen.Done kind)) rule own =
+    let d = (sees table c.stream (sound c.stream (tale n done) own.track) (seen.Done kind) rule).0 in
     subst (CanFinish (story_of n done) (stream_acts n done)) (sym d.2) (can_finish c.stream (tale n done) own.track own.emits d.0 d.1)
-finished_stream done n s c (Work seen.Idle) rule own = tt
-finished_stream done n s c (Work (seen.Asked word private)) rule own = tt
-finished_stream done n s c (Work (seen.Opened agreed word private)) rule own = tt
-finished_stream done n s c (Work (seen.Closed fault)) rule own = tt
-finished_stream done n s c (Work (seen.Placed right stag to octets)) rule own = tt
-finished_stream done n s c (Work (seen.Tried place)) rule own = tt
-finished_stream done n s c (Work (seen.Buffered msn mo len)) rule own = tt
-finished_stream done n s c (Work (seen.Requested size stag to)) rule own = tt
-finished_stream done n s c (Work seen.Passed) rule own = tt
-finished_stream done n s c (Work (seen.Received octets solicited invalidate)) rule own = tt
-finished_stream done n s c (Work (seen.Flushed kind)) rule own = tt
-finished_stream done n s c (Work (seen.FlushedRecv octets)) rule own = tt
-finished_stream done n s c (Work (seen.Terminated fault)) rule own = tt
-finished_stream done n s c (Work (seen.Fault fault)) rule own = tt
-finished_stream done n s c Break rule own = tt
-finished_stream done n s c (Post m refused) rule own = tt
-finished_stream done n s c (Recv len refused) rule own = tt
-finished_stream done n s c (Emit shown) rule own = tt
-finished_stream done n s c (Deliver from number octets delivery) rule own = tt
-finished_stream done n s c (Raw number octets delivery) rule own = tt
-finished_stream done n s c (First number refused) rule own = tt
-finished_stream done n s c (Mulpdu size refused) rule own = tt
-finished_stream done n s c (Accept private answer) rule own = tt
-finished_stream done n s c (Reject private refused) rule own = tt
+finished_stream done n table c (Work seen.Idle) rule own = tt
+finished_stream done n table c (Work (seen.Asked word private)) rule own = tt
+finished_stream done n table c (Work (seen.Opened agreed word private)) rule own = tt
+finished_stream done n table c (Work (seen.Closed fault)) rule own = tt
+finished_stream done n table c (Work (seen.Placed right stag to octets)) rule own = tt
+finished_stream done n table c (Work (seen.Tried place)) rule own = tt
+finished_stream done n table c (Work (seen.Buffered msn mo len)) rule own = tt
+finished_stream done n table c (Work (seen.Requested size stag to)) rule own = tt
+finished_stream done n table c (Work seen.Passed) rule own = tt
+finished_stream done n table c (Work (seen.Received octets solicited invalidate)) rule own = tt
+finished_stream done n table c (Work (seen.Flushed kind)) rule own = tt
+finished_stream done n table c (Work (seen.FlushedRecv octets)) rule own = tt
+finished_stream done n table c (Work (seen.Terminated fault)) rule own = tt
+finished_stream done n table c (Work (seen.Fault fault)) rule own = tt
+finished_stream done n table c Break rule own = tt
+finished_stream done n table c (Post m refused) rule own = tt
+finished_stream done n table c (Recv len refused) rule own = tt
+finished_stream done n table c (Emit shown) rule own = tt
+finished_stream done n table c (Deliver from number octets delivery) rule own = tt
+finished_stream done n table c (Raw number octets delivery) rule own = tt
+finished_stream done n table c (First number refused) rule own = tt
+finished_stream done n table c (Mulpdu size refused) rule own = tt
+finished_stream done n table c (Accept private answer) rule own = tt
+finished_stream done n table c (Reject private refused) rule own = tt
 
 pub finished_all : (trace : List (Entry Octets)) → Run trace → Finished trace
-finished_all trace run = each_stream FinishedStream trace run (λ done s n c act k peer rule own. finished_stream done n s c act rule own)
+finished_all trace run = each_stream FinishedStream trace run (λ done table n c act rule own. finished_stream done n table c act rule own)
 
 -- ---- rest
 
-idle_stream : (s : EndState) (c : Connected) (done : List (Act Octets)) (n : ℕ) (act : StreamAct Octets) → StreamRule s.endpoint.table c.stream act → Own (opening_of n done) c (tale n done) → IdleStream done n act
-idle_stream s c done n (Work seen.Idle) rule o = record {
-  reason = idles s.endpoint.table c.stream (tale n done) rule o.track o.ended;
-  unfinished = cannot_finish c.stream (tale n done) o.track o.emits (idle_unfinished s.endpoint.table c.stream (tale n done) rule o.track);
+pub idle_stream : (table : Table) (c : Connected) (done : List (Act Octets)) (n : ℕ) (act : StreamAct Octets) → StreamRule table c.stream act → Own (opening_of n done) c (tale n done) → IdleStream done n act
+idle_stream table c done n (Work seen.Idle) rule o = record {
+  reason = idles table c.stream (tale n done) rule o.track o.ended;
+  unfinished = cannot_finish c.stream (tale n done) o.track o.emits (idle_unfinished table c.stream (tale n done) rule o.track);
 }
-idle_stream s c done n (Work (seen.Asked word private)) rule o = tt
-idle_stream s c done n (Work (seen.Opened agreed word private)) rule o = tt
-idle_stream s c done n (Work (seen.Closed fault)) rule o = tt
-idle_stream s c done n (Accept private answer) rule o = tt
-idle_stream s c done n (Reject private refused) rule o = tt
-idle_stream s c done n (Work (seen.Done kind)) rule own = tt
-idle_stream s c done n (Work (seen.Placed right stag to octets)) rule o = tt
-idle_stream s c done n (Work (seen.Tried place)) rule o = tt
-idle_stream s c done n (Work (seen.Buffered msn mo len)) rule o = tt
-idle_stream s c done n (Work (seen.Requested size stag to)) rule o = tt
-idle_stream s c done n (Work seen.Passed) rule o = tt
-idle_stream s c done n (Work (seen.Received octets solicited invalidate)) rule o = tt
-idle_stream s c done n (Work (seen.Flushed kind)) rule o = tt
-idle_stream s c done n (Work (seen.FlushedRecv octets)) rule o = tt
-idle_stream s c done n (Work (seen.Terminated fault)) rule o = tt
-idle_stream s c done n (Work (seen.Fault fault)) rule o = tt
-idle_stream s c done n Break rule o = tt
-idle_stream s c done n (Post m refused) rule o = tt
-idle_stream s c done n (Recv len refused) rule o = tt
-idle_stream s c done n (Emit shown) rule o = tt
-idle_stream s c done n (Deliver from number octets delivery) rule o = tt
-idle_stream s c done n (Raw number octets delivery) rule o = tt
-idle_stream s c done n (First number refused) rule o = tt
-idle_stream s c done n (Mulpdu size refused) rule o = tt
+idle_stream table c done n (Work (seen.Asked word private)) rule o = tt
+idle_stream table c done n (Work (seen.Opened agreed word private)) rule o = tt
+idle_stream table c done n (Work (seen.Closed fault)) rule o = tt
+idle_stream table c done n (Accept private answer) rule o = tt
+idle_stream table c done n (Reject private refused) rule o = tt
+idle_stream table c done n (Work (seen.Done kind)) rule own = tt
+idle_stream table c done n (Work (seen.Placed right stag to octets)) rule o = tt
+idle_stream table c done n (Work (seen.Tried place)) rule o = tt
+idle_stream table c done n (Work (seen.Buffered msn mo len)) rule o = tt
+idle_stream table c done n (Work (seen.Requested size stag to)) rule o = tt
+idle_stream table c done n (Work seen.Passed) rule o = tt
+idle_stream table c done n (Work (seen.Received octets solicited invalidate)) rule o = tt
+idle_stream table c done n (Work (seen.Flushed kind)) rule o = tt
+idle_stream table c done n (Work (seen.FlushedRecv octets)) rule o = tt
+idle_stream table c done n (Work (seen.Terminated fault)) rule o = tt
+idle_stream table c done n (Work (seen.Fault fault)) rule o = tt
+idle_stream table c done n Break rule o = tt
+idle_stream table c done n (Post m refused) rule o = tt
+idle_stream table c done n (Recv len refused) rule o = tt
+idle_stream table c done n (Emit shown) rule o = tt
+idle_stream table c done n (Deliver from number octets delivery) rule o = tt
+idle_stream table c done n (Raw number octets delivery) rule o = tt
+idle_stream table c done n (First number refused) rule o = tt
+idle_stream table c done n (Mulpdu size refused) rule o = tt
 
 pub idle_at_rest : (trace : List (Entry Octets)) → Run trace → IdleOnlyAtRest trace
-idle_at_rest trace run = each_stream IdleStream trace run (λ done s n c act k peer rule own. idle_stream s c done n act rule own)
+idle_at_rest trace run = each_stream IdleStream trace run (λ done table n c act rule own. idle_stream table c done n act rule own)
 
 -- ---- before their turn
 
-pub early_all : (trace : List (Entry Octets)) → Run trace → JudgesEarly trace
-early_all trace run = judges_early trace (idle_at_rest trace run) (turns_all trace run)
+pub early_all : (trace : List (Entry Octets)) → ToldRun trace → JudgesEarly trace
+early_all trace run = judges_early trace (idle_at_rest trace (run_in trace run)) (turns_all trace run)
 
-pub second_all : (trace : List (Entry Octets)) → Run trace → ChecksOnce trace
+pub second_all : (trace : List (Entry Octets)) → ToldRun trace → ChecksOnce trace
 second_all trace run = checks_once trace (turns_all trace run)
 
-spans_once : (trace : List (Entry Octets)) → Run trace → (past future : List (Entry Octets)) → trace ≡ past ++ future → (x : End) (n : ℕ) → AreOnce (spans_placed (opening_of n (acts x past)) (stream_acts n (acts x past)))
+pub spans_once : (trace : List (Entry Octets)) → Run trace → NonePlacedTwice trace
 spans_once trace run past future is x n =
-    let h = ((run.seen past future is).pairs x n).own in
+    let h = ((seen_then past future (run past future is)).pairs x n).own in
     are_once h.stream (spans_placed (opening_of n (acts x past)) (stream_acts n (acts x past))) h.own.once
 
-pub once_all : (trace : List (Entry Octets)) → Run trace → PlacesOnce trace
-once_all trace run = record { placements = placements trace (turns_all trace run); once = spans_once trace run }
+pub once_all : (trace : List (Entry Octets)) → ToldRun trace → PlacesOnce trace
+once_all trace run = record { placements = placements trace (turns_all trace run); once = spans_once trace (run_in trace run) }
 
 -- ---- the end
 
@@ -811,47 +839,47 @@ end_shown o c done queue table (Fetched from frame stag to octets) rule own = sy
 end_shown o c done queue table (Denied fault) rule own = sym own.ended ∙ (emits_as table c.stream (Denied fault) rule).speaks.running
 end_shown o c done queue table Nothing rule own = tt
 
-ends_stream : (done : List (Act Octets)) (n : ℕ) (s : EndState) (c : Connected) (act : StreamAct Octets) → StreamRule s.endpoint.table c.stream act → Own (opening_of n done) c (tale n done) → EndsStream done n act
-ends_stream done n s c (Work step) rule own = (end_seen (opening_of n done) c (stream_acts n done) (receiving_of n done) s.endpoint.table step rule own, tt)
-ends_stream done n s c (Emit shown) rule own = (tt, end_shown (opening_of n done) c (stream_acts n done) (receiving_of n done) s.endpoint.table shown rule own)
-ends_stream done n s c (Post m refused) rule own = (tt, tt)
-ends_stream done n s c (Recv len refused) rule own = (tt, tt)
-ends_stream done n s c (Deliver from number octets delivery) rule own = (tt, tt)
-ends_stream done n s c (Raw number octets delivery) rule own = (tt, tt)
-ends_stream done n s c (First number refused) rule own = (tt, tt)
-ends_stream done n s c (Mulpdu size refused) rule own = (tt, tt)
-ends_stream done n s c (Accept private answer) rule own = (tt, tt)
-ends_stream done n s c (Reject private refused) rule own = (tt, tt)
-ends_stream done n s c Break rule own = (tt, tt)
+ends_stream : (done : List (Act Octets)) (n : ℕ) (table : Table) (c : Connected) (act : StreamAct Octets) → StreamRule table c.stream act → Own (opening_of n done) c (tale n done) → EndsStream done n act
+ends_stream done n table c (Work step) rule own = (end_seen (opening_of n done) c (stream_acts n done) (receiving_of n done) table step rule own, tt)
+ends_stream done n table c (Emit shown) rule own = (tt, end_shown (opening_of n done) c (stream_acts n done) (receiving_of n done) table shown rule own)
+ends_stream done n table c (Post m refused) rule own = (tt, tt)
+ends_stream done n table c (Recv len refused) rule own = (tt, tt)
+ends_stream done n table c (Deliver from number octets delivery) rule own = (tt, tt)
+ends_stream done n table c (Raw number octets delivery) rule own = (tt, tt)
+ends_stream done n table c (First number refused) rule own = (tt, tt)
+ends_stream done n table c (Mulpdu size refused) rule own = (tt, tt)
+ends_stream done n table c (Accept private answer) rule own = (tt, tt)
+ends_stream done n table c (Reject private refused) rule own = (tt, tt)
+ends_stream done n table c Break rule own = (tt, tt)
 
 pub ends_all : (trace : List (Entry Octets)) → Run trace → Ends trace
-ends_all trace run = each_stream EndsStream trace run (λ done s n c act k peer rule own. ends_stream done n s c act rule own)
+ends_all trace run = each_stream EndsStream trace run (λ done table n c act rule own. ends_stream done n table c act rule own)
 
 -- the story of a stream has ended where its acts say so
 pub ended_told : (trace : List (Entry Octets)) → Run trace → (x : End) (n : ℕ) → has_ended (story_of n (acts x trace)).ending ≡ has_ended_by (stream_acts n (acts x trace))
 ended_told trace run x n =
-    let own = ((run.seen trace [] (sym (append-nil trace))).pairs x n).own.own in
+    let own = ((seen_then trace [] (run trace [] (sym (append-nil trace)))).pairs x n).own.own in
     ap has_ended own.emits.parts.ending ∙ own.ended
 
 -- ---- calls
 
 -- an opening is refused by what was done
-number_refused : (s : EndState) (done : List (Act Octets)) (n pd : ℕ) → EndKept s done → number_refusal s.endpoint n pd ≡ number_refusal_by done n pd
-number_refused s done n pd k =
+number_refused : (s : EndState) (done : List (Act Octets)) (n pd : ℕ) → EndKept s done → s.endpoint.table ≡ table_after done → number_refusal s.endpoint n pd ≡ number_refusal_by done n pd
+number_refused s done n pd k regions =
     let taken : is_taken s.endpoint n ≡ was_opened (openings n done) = (λ i. k.opened n i || is_some (closed_none s.endpoint n k.none_closed i)) ∙ or_false (was_opened (openings n done)) in
-    λ i. cond (nat_le stream_numbers n) (Some BadNumber) (cond (taken i) (Some NumberTaken) (cond (not (is_added (k.table i) pd)) (Some NoDomain) None))
+    λ i. cond (nat_le stream_numbers n) (Some BadNumber) (cond (taken i) (Some NumberTaken) (cond (not (is_added (regions i) pd)) (Some NoDomain) None))
   where
     or_false : (b : Bool) → (b || false) ≡ b
     or_false true = refl
     or_false false = refl
 
-open_refused : (s : EndState) (done : List (Act Octets)) (n pd : ℕ) (role : Role) (config : Config) → EndKept s done → open_refusal s.endpoint n pd role config ≡ open_refusal_by done n pd role config
-open_refused s done n pd role config k = λ i. option_or (number_refused s done n pd k i) (request_refusal role config)
+open_refused : (s : EndState) (done : List (Act Octets)) (n pd : ℕ) (role : Role) (config : Config) → EndKept s done → s.endpoint.table ≡ table_after done → open_refusal s.endpoint n pd role config ≡ open_refusal_by done n pd role config
+open_refused s done n pd role config k regions = λ i. option_or (number_refused s done n pd k regions i) (request_refusal role config)
 
-open_shared_refused : (s : EndState) (done : List (Act Octets)) (n pd : ℕ) (role : Role) (config : Config) → EndKept s done → PoolsSeen s done
+open_shared_refused : (s : EndState) (done : List (Act Octets)) (n pd : ℕ) (role : Role) (config : Config) → EndKept s done → PoolsSeen s done → s.endpoint.table ≡ table_after done
     → open_shared_refusal s.endpoint n pd role config ≡ open_shared_refusal_by done n pd role config
-open_shared_refused s done n pd role config k pools =
-    λ i. option_or (option_map open_shared_refusal_of (number_refused s done n pd k i)) (option_or (unshared (pools pd i)) (option_map open_shared_refusal_of (request_refusal role config)))
+open_shared_refused s done n pd role config k pools regions =
+    λ i. option_or (option_map open_shared_refusal_of (number_refused s done n pd k regions i)) (option_or (unshared (pools pd i)) (option_map open_shared_refusal_of (request_refusal role config)))
 
 -- the STag of the next region names nothing
 next_free : (table : Table) (pd base len : ℕ) (region : Region) → register_refusal table pd base len ≡ None → region_at table (next_stag table pd) ≡ None
@@ -863,53 +891,54 @@ next_free table pd base len region e = go (is_some (part_of table pd)) refl e
     go true added h = (registered-changes table pd region (there table pd added)).was_free
     go false added h = absurd (none-some _ (sym h))
 
-registers : (table : Table) (pd base len : ℕ) (region : Region) (answer : Result Stag RegisterRefusal) → answer ≡ answer_or (register_refusal table pd base len) (next_stag table pd) → (result_err answer ≡ register_refusal table pd base len) × IfOk answer (IsNew table pd)
+pub registers : (table : Table) (pd base len : ℕ) (region : Region) (answer : Result Stag RegisterRefusal) → answer ≡ answer_or (register_refusal table pd base len) (next_stag table pd) → (result_err answer ≡ register_refusal table pd base len) × IfOk answer (IsNew table pd)
 registers table pd base len region answer e = subst (λ z. (result_err z ≡ register_refusal table pd base len) × IfOk z (IsNew table pd)) (sym e) (go (register_refusal table pd base len) refl)
   where
     go : (o : Option RegisterRefusal) → register_refusal table pd base len ≡ o → (result_err (answer_or o (next_stag table pd)) ≡ register_refusal table pd base len) × IfOk (answer_or o (next_stag table pd)) (IsNew table pd)
     go None is = (sym is, record { domain = refl; fresh = next_free table pd base len region is })
     go (Some refusal) is = (sym is, tt)
 
-end_answered : (done : List (Act Octets)) (s : EndState) (act : Act Octets) → EndKept s done → PoolsSeen s done → EndRule s.endpoint act → EndAnswered done act
-end_answered done s (Domain pd refused) k pools rule = subst (λ t. refused ≡ domain_refusal t pd) k.table rule
-end_answered done s (Register pd base rights octets answer) k pools rule =
-    subst (λ t. (result_err answer ≡ register_refusal t pd base (length octets)) × IfOk answer (IsNew t pd)) k.table (registers s.endpoint.table pd base (length octets) (new_region base octets rights) answer rule)
-end_answered done s (Deregister stag answer) k pools rule = subst (λ t. answer ≡ deregister_answer t stag) k.table rule
-end_answered done s (Invalidate stag refused) k pools rule = subst (λ t. refused ≡ invalidate_refusal t stag) k.table rule
-end_answered done s (Store stag to octets refused) k pools rule = subst (λ t. refused ≡ store_refusal t stag to (length octets)) k.table rule
-end_answered done s (Open n pd role options private refused) k pools rule = rule ∙ open_refused s done n pd role (config_for options private) k
-end_answered done s (Share pd refused) k pools rule = rule ∙ (λ i. share_fault (is_added (k.table i) pd) (pools pd i))
-end_answered done s (Pool pd len refused) k pools rule = rule ∙ (λ i. pool_fault (is_added (k.table i) pd) (pools pd i))
-end_answered done s (Unpool pd answer) k pools rule = rule ∙ (λ i. answer_or (take_fault (is_added (k.table i) pd) (pools pd i)) (taken (pools pd i)))
-end_answered done s (OpenShared n pd role options private refused) k pools rule = rule ∙ open_shared_refused s done n pd role (config_for options private) k pools
-end_answered done s (Stream n act) k pools rule = tt
+end_answered : (done : List (Act Octets)) (s : EndState) (act : Act Octets) → EndKept s done → PoolsSeen s done → s.endpoint.table ≡ table_after done → EndRule s.endpoint act → EndAnswered done act
+end_answered done s (Domain pd refused) k pools regions rule = subst (λ t. refused ≡ domain_refusal t pd) regions rule
+end_answered done s (Register pd base rights octets answer) k pools regions rule =
+    subst (λ t. (result_err answer ≡ register_refusal t pd base (length octets)) × IfOk answer (IsNew t pd)) regions (registers s.endpoint.table pd base (length octets) (new_region base octets rights) answer rule)
+end_answered done s (Deregister stag answer) k pools regions rule = subst (λ t. answer ≡ deregister_answer t stag) regions rule
+end_answered done s (Invalidate stag refused) k pools regions rule = subst (λ t. refused ≡ invalidate_refusal t stag) regions rule
+end_answered done s (Store stag to octets refused) k pools regions rule = subst (λ t. refused ≡ store_refusal t stag to (length octets)) regions rule
+end_answered done s (Open n pd role options private refused) k pools regions rule = rule ∙ open_refused s done n pd role (config_for options private) k regions
+end_answered done s (Share pd refused) k pools regions rule = rule ∙ (λ i. share_fault (is_added (regions i) pd) (pools pd i))
+end_answered done s (Pool pd len refused) k pools regions rule = rule ∙ (λ i. pool_fault (is_added (regions i) pd) (pools pd i))
+end_answered done s (Unpool pd answer) k pools regions rule = rule ∙ (λ i. answer_or (take_fault (is_added (regions i) pd) (pools pd i)) (taken (pools pd i)))
+end_answered done s (OpenShared n pd role options private refused) k pools regions rule = rule ∙ open_shared_refused s done n pd role (config_for options private) k pools regions
+end_answered done s (Stream n act) k pools regions rule = tt
 
 pub shows_memory : (trace : List (Entry Octets)) → Follows start trace → ShowsMemory trace
 shows_memory trace follows past e future is =
     let w : State = state_after start past in
     let m : BothSeen past w = seen_at past (e ∷ future) trace follows is in
-    let rule : Rule (end_of e.end w) (end_of (other e.end) w) e.act = (follows_split past (e ∷ future) start (subst (Follows start) is follows)).1.0 in
-    end_answered (acts e.end past) (end_of e.end w) e.act (m.ends e.end) (m.pools e.end) rule.0
+    let split = follows_split past (e ∷ future) start (subst (Follows start) is follows) in
+    let rule : Rule (end_of e.end w) (end_of (other e.end) w) e.act = split.1.0 in
+    end_answered (acts e.end past) (end_of e.end w) e.act (m.ends e.end) (m.pools e.end) (told_onward [] past start unsaid told_first split.0 e.end).table rule.0
 
 -- those on regions and pools, whatever numbers the streams have
-plain_answered : (done : List (Act Octets)) (s peer : EndState) (act : Act Octets) → EndKept s done → PoolsSeen s done → PlainRule s peer act → PlainAnswered done act
-plain_answered done s peer (Domain pd refused) k pools rule = end_answered done s (Domain pd refused) k pools rule.0
-plain_answered done s peer (Register pd base rights octets answer) k pools rule = end_answered done s (Register pd base rights octets answer) k pools rule.0
-plain_answered done s peer (Deregister stag answer) k pools rule = end_answered done s (Deregister stag answer) k pools rule.0
-plain_answered done s peer (Invalidate stag refused) k pools rule = end_answered done s (Invalidate stag refused) k pools rule.0
-plain_answered done s peer (Store stag to octets refused) k pools rule = end_answered done s (Store stag to octets refused) k pools rule.0
-plain_answered done s peer (Open n pd role options private refused) k pools rule = tt
-plain_answered done s peer (Share pd refused) k pools rule = end_answered done s (Share pd refused) k pools rule.0
-plain_answered done s peer (Pool pd len refused) k pools rule = end_answered done s (Pool pd len refused) k pools rule.0
-plain_answered done s peer (Unpool pd answer) k pools rule = end_answered done s (Unpool pd answer) k pools rule.0
-plain_answered done s peer (OpenShared n pd role options private refused) k pools rule = tt
-plain_answered done s peer (Stream n act) k pools rule = tt
+plain_answered : (done : List (Act Octets)) (s peer : EndState) (act : Act Octets) → EndKept s done → PoolsSeen s done → s.endpoint.table ≡ table_after done → PlainRule s peer act → PlainAnswered done act
+plain_answered done s peer (Domain pd refused) k pools regions rule = end_answered done s (Domain pd refused) k pools regions rule.0
+plain_answered done s peer (Register pd base rights octets answer) k pools regions rule = end_answered done s (Register pd base rights octets answer) k pools regions rule.0
+plain_answered done s peer (Deregister stag answer) k pools regions rule = end_answered done s (Deregister stag answer) k pools regions rule.0
+plain_answered done s peer (Invalidate stag refused) k pools regions rule = end_answered done s (Invalidate stag refused) k pools regions rule.0
+plain_answered done s peer (Store stag to octets refused) k pools regions rule = end_answered done s (Store stag to octets refused) k pools regions rule.0
+plain_answered done s peer (Open n pd role options private refused) k pools regions rule = tt
+plain_answered done s peer (Share pd refused) k pools regions rule = end_answered done s (Share pd refused) k pools regions rule.0
+plain_answered done s peer (Pool pd len refused) k pools regions rule = end_answered done s (Pool pd len refused) k pools regions rule.0
+plain_answered done s peer (Unpool pd answer) k pools regions rule = end_answered done s (Unpool pd answer) k pools regions rule.0
+plain_answered done s peer (OpenShared n pd role options private refused) k pools regions rule = tt
+plain_answered done s peer (Stream n act) k pools regions rule = tt
 
-pub shows_regions : (trace : List (Entry Octets)) → Run trace → ShowsRegions trace
+pub shows_regions : (trace : List (Entry Octets)) → ToldRun trace → ShowsRegions trace
 shows_regions trace run past e future is =
-    let w : State = run.left past in
-    let m : BothSeen past w = run.seen past (e ∷ future) is in
-    plain_answered (acts e.end past) (end_of e.end w) (end_of (other e.end) w) e.act (m.ends e.end) (m.pools e.end) (run.ruled past e future is)
+    let m = run past (e ∷ future) is in
+    let w : State = m.0.state in
+    plain_answered (acts e.end past) (end_of e.end w) (end_of (other e.end) w) e.act (m.0.keeps.ends e.end) (m.0.keeps.pools e.end) (m.1 e.end).table m.0.next
 
 -- the buffers and the messages that count for a refusal
 recv_refused : (o : Opening) (c : Connected) (done : List (StreamAct Octets)) (queue : Receiving) → Own o c (tale_with o done queue) → recv_refusal c.stream ≡ recv_refusal_by (story_with o done queue) done
@@ -974,7 +1003,7 @@ stream_answered o c done queue table (Work step) rule own = tt
 stream_answered o c done queue table Break rule own = tt
 
 pub answered_all : (trace : List (Entry Octets)) → Run trace → Answered trace
-answered_all trace run = each_stream AnsweredStream trace run (λ done s n c act k peer rule own. stream_answered (opening_of n done) c (stream_acts n done) (receiving_of n done) s.endpoint.table act rule own)
+answered_all trace run = each_stream AnsweredStream trace run (λ done table n c act rule own. stream_answered (opening_of n done) c (stream_acts n done) (receiving_of n done) table act rule own)
 
 -- ---- octets that come
 
@@ -1004,7 +1033,7 @@ octets_kept o c done queue table (Work step) rule own = tt
 octets_kept o c done queue table Break rule own = tt
 
 pub keeps_octets : (trace : List (Entry Octets)) → Run trace → KeepsOctets trace
-keeps_octets trace run = each_stream KeptStream trace run (λ done s n c act k peer rule own. octets_kept (opening_of n done) c (stream_acts n done) (receiving_of n done) s.endpoint.table act rule own)
+keeps_octets trace run = each_stream KeptStream trace run (λ done table n c act rule own. octets_kept (opening_of n done) c (stream_acts n done) (receiving_of n done) table act rule own)
 
 -- octets that are delivered are the other end's, and have the numbers of their places
 carried : (o : Opening) (c : Connected) (done : List (StreamAct Octets)) (queue : Receiving) (table : Table) (wire : Octets) (act : StreamAct Octets) → StreamRule table c.stream act → WireRule wire act → Own o c (tale_with o done queue)
@@ -1042,9 +1071,10 @@ carries P done s peer (OpenShared n pd role options private refused) rule h = tt
 
 pub carries_octets : (trace : List (Entry Octets)) → Run trace → CarriesOctets trace
 carries_octets trace run past e future is =
-    let w : State = run.left past in
-    let m : BothSeen past w = run.seen past (e ∷ future) is in
-    let rule : PlainRuleIn w e = run.ruled past e future is in
+    let at : Moment past (e ∷ future) = run past (e ∷ future) is in
+    let w : State = at.state in
+    let m : BothSeen past w = seen_then past (e ∷ future) at in
+    let rule : PlainRuleIn w e = at.next in
     let s : EndState = end_of e.end w in
     let done : List (Act Octets) = acts e.end past in
     let others : List (Act Octets) = acts (other e.end) past in
@@ -1084,9 +1114,10 @@ stream_opened s peer own others (OpenShared n pd role options private refused) k
 
 pub opens_first : (trace : List (Entry Octets)) → Run trace → OpensFirst trace
 opens_first trace run past e future is =
-    let w : State = run.left past in
-    let m : BothSeen past w = run.seen past (e ∷ future) is in
-    let rule : PlainRuleIn w e = run.ruled past e future is in
+    let at : Moment past (e ∷ future) = run past (e ∷ future) is in
+    let w : State = at.state in
+    let m : BothSeen past w = seen_then past (e ∷ future) at in
+    let rule : PlainRuleIn w e = at.next in
     stream_opened (end_of e.end w) (end_of (other e.end) w) (acts e.end past) (acts (other e.end) past) e.act (m.ends e.end) (m.ends (other e.end)) rule
 
 -- ---- events that cannot happen

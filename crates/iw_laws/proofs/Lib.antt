@@ -52,6 +52,7 @@ pub mod Renumbered
 pub mod Serving
 pub mod Gone
 pub mod Closing
+pub mod ServerTables
 pub mod Apart
 pub mod RefusedApart
 pub mod EarlyLaws

@@ -48,7 +48,7 @@ of_early t s step placing w = on (early_verdict s w.frame) refl w.answer
     on None e a = absurd (placing.1 _ a)
     on (Some at) e a = record { frame = w.frame; is = judged_early t w.frame w.no_next w.is_early; at = at; lands = (early_lands s w.frame at e).0; answer = a }
 
-placed_seen : (over : Bool) (t : Story) (s : Standing) (step : Seen Octets) → TurnsSeen over t s step → PlacedSeen t s step
+pub placed_seen : (over : Bool) (t : Story) (s : Standing) (step : Seen Octets) → TurnsSeen over t s step → PlacedSeen t s step
 placed_seen over t s (seen.Placed right stag to octets) (reads, inl judged) = of_judged t s (seen.Placed right stag to octets) ((λ fault e. cc), (λ place e. cc)) judged
 placed_seen over t s (seen.Placed right stag to octets) (reads, inr early) = of_early t s (seen.Placed right stag to octets) ((λ fault e. cc), (λ place e. cc)) early
 placed_seen over t s (seen.Buffered msn mo len) (reads, inl judged) = of_judged t s (seen.Buffered msn mo len) ((λ fault e. cc), (λ place e. cc)) judged

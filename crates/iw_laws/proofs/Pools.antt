@@ -5,7 +5,6 @@ use Rattle.std.specs.Option.{option_map, option_map_or}
 use Rattle.std.proofs.lemmas.Bool.{cases_lt, eq-eqb, false≢true}
 use Rattle.std.proofs.lemmas.List.{get_or-set_same, get_or-set_other}
 use Rattle.std.proofs.lemmas.Option.{none-some}
-use Rattle.iw_memory.specs.declared.peer.Peer.{Peer}
 use Rattle.iw_memory.specs.Table.{Table, is_added, register_refusal}
 use Rattle.iw_untagged.specs.Receiving.{Source, Receiving, exchanged, full_refusal, seeing}
 use Rattle.iw_stream.specs.declared.answer.RecvRefusal.TheVariants as recv_refusals
@@ -282,7 +281,7 @@ next_held s done n act k pools has rule h = go (opening_of n done).shared refl a
     told b e = subst (λ z. Holds (opening_of n done) (connected_at s n) (told_by z (opening_of n done) (stream_acts n done) ((pooling done).queues n))) e h
 
     pool_is : pool_of s.endpoint (stream_at s.endpoint n).domain ≡ pool_by (domain_of n done) done
-    pool_is = pools (stream_at s.endpoint n).domain ∙ ap (λ (p : Peer). pool_by p.domain done) (k.peer n has)
+    pool_is = pools (stream_at s.endpoint n).domain ∙ ap (λ d. pool_by d done) (k.domain n has)
 
     go : (b : Bool) → (opening_of n done).shared ≡ b → (act : StreamAct Octets) → StreamRule s.endpoint.table (stream_for s.endpoint n act) act → NextAt s done n act b (queue_next done n act)
     go false e act rule = own_next s done n (shared_is false e) act (queue_next done n act) rule (told false e)
@@ -374,7 +373,7 @@ module _ (s : EndState) (done : List (Act Octets)) (n d : ℕ) (k : EndSeen s do
           ap (λ z. cond (eqb (stream_at e n).domain d) z (pool_of e d)) (own_pool e.table (pool_of e (stream_at e n).domain) (stream_at e n) (k.pooled n has ∙ own))
           ∙ same_at e.pools (stream_at e n).domain d ∙ pools d
       go true shared =
-          let domain : (stream_at e n).domain ≡ domain_of n done = ap (λ (p : Peer). p.domain) (k.peer n has) in
+          let domain : (stream_at e n).domain ≡ domain_of n done = k.domain n has in
           let pool_is : pool_of e (stream_at e n).domain ≡ pool_by (domain_of n done) done = pools (stream_at e n).domain ∙ ap (λ j. pool_by j done) domain in
           let next : pool_left e.table (pool_of e (stream_at e n).domain) (stream_at e n) ≡ pool_back (pool_by (domain_of n done) done) ((pooling done).queues n) (queue_seen (pooled done) n step) =
           pool_stepped s done n step shared pool_is rule h in

@@ -1,5 +1,5 @@
 -- Runs of servers that one law refuses.
-use Rattle.std.proofs.Common.{◌≡◌, List, [], ◌∷◌, length, get_or, refl, ap, arith, inl, false, None}
+use Rattle.std.proofs.Common.{◌≡◌, List, [], ◌∷◌, length, get_or, refl, take, ap, arith, inl, inr, false, None}
 use Rattle.iw_events.specs.declared.call.End.{End}
 use Rattle.iw_events.specs.declared.call.End.TheVariants.{A, B}
 use Rattle.iw_laws.specs.Words.{Octets, Sent, acts, openings, stream_acts, posted, received}
@@ -7,10 +7,14 @@ use Rattle.iw_laws.specs.Turns.{story, story_of}
 use Rattle.iw_laws.specs.Safe.{IsHonest}
 use Rattle.iw_laws.specs.Servers.{told}
 use Rattle.iw_laws.specs.ServerLaws.{by_number}
-use Rattle.iw_laws.specs.ServerRuns.{at_a, gives, closes, rests, skips_first}
-use Rattle.iw_laws.specs.ServerRuns.{RefusesRestClosed, RefusesClosedTwice, RefusesGivenTwice, RefusesPickedClosed, RefusesSkippedGiven}
+use Rattle.iw_laws.specs.ServerRuns.{at_a, at_b, gives, closes, rests, limits, skips_first, writes_elsewhere}
+use Rattle.iw_laws.specs.ServerRuns.{RefusesRestClosed, RefusesClosedTwice, RefusesGivenTwice, RefusesPickedClosed, RefusesSkippedGiven, RefusesLimitedClosed, RefusesSkippedLimited, RefusesWrittenElsewhere}
 use Rattle.iw_events.specs.declared.act.Act.TheVariants.{Domain}
-use Rattle.iw_events.specs.declared.server.ServerAct.TheVariants.{Plain}
+use Rattle.iw_events.specs.declared.server.ServerAct.TheVariants.{Plain, Stream}
+use Rattle.iw_events.specs.declared.act.StreamAct.TheVariants.{Work}
+use Rattle.iw_memory.specs.Table.{empty}
+use Rattle.std.proofs.lemmas.Bool.{false≢true}
+use Rattle.iw_laws.specs.WrongRuns.{places}
 use Rattle.iw_laws.proofs.RefusedReads.{opened_at_once}
 
 pub refuses_rest_closed : RefusesRestClosed
@@ -51,3 +55,19 @@ refuses_skipped_given h =
     calm : (x : End) → (story_of 64 (acts x (told by_number skips_first))).strays ≡ false
     calm A = refl
     calm B = refl
+
+pub refuses_limited_closed : RefusesLimitedClosed
+refuses_limited_closed h =
+    let r = h (at_a (Plain (Domain 1 None)) ∷ at_a gives ∷ []) (at_a limits ∷ []) A 64 refl in
+    omega (arith, ap length r.limited)
+
+-- it tells what the run without the region tells
+pub refuses_skipped_limited : RefusesSkippedLimited
+refuses_skipped_limited h = refuses_skipped_given h
+
+pub refuses_written_elsewhere : RefusesWrittenElsewhere
+unfolding acts stream_acts openings empty
+refuses_written_elsewhere h = elim (h (take 4 writes_elsewhere) (at_b (Stream 65 (Work places))) [] refl).0 [
+  | inl none ↦ absurd (omega (arith, none))
+  | inr there ↦ absurd (false≢true there.1.in_scope)
+]

@@ -13,9 +13,9 @@ use Rattle.iw_laws.proofs.Tales.{Tale}
 use Rattle.iw_laws.proofs.Tracks.{Track, start_octets, point_is}
 use Rattle.iw_laws.proofs.Pools.{held, tale_seen as tale}
 use Rattle.iw_laws.proofs.Whole.{Seen as BothSeen}
-use Rattle.iw_laws.proofs.Runs.{Run}
+use Rattle.iw_laws.proofs.Runs.{Run, Moment, seen_then}
 use Rattle.iw_laws.proofs.Busy.{uses}
-use Rattle.iw_laws.proofs.Laws.{turns_all, ends_all, finished_all}
+use Rattle.iw_laws.proofs.Laws.{turns_by_some, ends_all, finished_all}
 
 -- a stream that awaits the peer's start-up frame has read nothing
 unread : (z : StartState) → awaits_frame z ≡ true → start_octets z ≡ []
@@ -59,9 +59,10 @@ steps_few s t messages k = omega (arith, places_few s t k, front_few (awaits_fra
 
 pub work_rests : (trace : List (Entry Octets)) → Run trace → WorkComesToRest trace
 work_rests trace run past others future is x n opened running busy =
-    let k : BothSeen past (run.left past) = run.seen past (others ++ future) is in
+    let at : Moment past (others ++ future) = run past (others ++ future) is in
+    let k : BothSeen past at.state = seen_then past (others ++ future) at in
     let p = k.pairs x n in
     record {
-      used = uses trace (turns_all trace run) (ends_all trace run) (finished_all trace run) n x past others future is opened running busy;
+      used = uses trace (turns_by_some trace run) (ends_all trace run) (finished_all trace run) n x past others future is opened running busy;
       most = steps_few (held p.own).stream (tale n (acts x past)) (messages_left (stream_acts n (acts x past))) p.own.own.track;
     }

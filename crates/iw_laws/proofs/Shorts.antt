@@ -16,10 +16,10 @@ use Rattle.iw_events.specs.declared.server.ServerAct.{ServerAct}
 use Rattle.iw_events.specs.declared.server.ServerAct.TheVariants as servers
 use Rattle.iw_events.specs.declared.server.ServerEntry.{ServerEntry}
 use Rattle.iw_laws.specs.Servers.{Connections, AreApart, told, told_by, plain_told, at_end, server_state_after, ServerFollows}
-use Rattle.iw_laws.proofs.Runs.{PlainRule, plain_rule}
-use Rattle.iw_laws.proofs.Given.{FollowsWide, left_entry, left_all, wide_more, wide_plain, wide_onward}
+use Rattle.iw_laws.specs.ServerLaws.{by_number}
+use Rattle.iw_laws.proofs.Runs.{Run, Moment, PlainRule, plain_rule}
 use Rattle.iw_laws.proofs.Renumbered.{under}
-use Rattle.iw_laws.proofs.Serving.{Alike, asked_for, many_asked, served}
+use Rattle.iw_laws.proofs.Serving.{Alike, asked_for, served, server_run}
 use Rattle.iw_laws.specs.Rules.{EndState, State, end_of, start, StreamRule, stream_for, after_entry, state_after, Follows}
 use Rattle.iw_laws.proofs.States.{connected_at}
 use Rattle.iw_laws.proofs.Pools.{Holds, held, tale}
@@ -27,7 +27,7 @@ use Rattle.iw_laws.specs.Bounds.{IsShort, IsShortEnd, IsShortState}
 use Rattle.iw_laws.proofs.Tales.{stream_acts-push, acts_mine, acts_other}
 use Rattle.iw_stream.specs.Stream.{StreamState}
 use Rattle.iw_laws.proofs.Releases.{left_acts, left_apart, left_floor}
-use Rattle.iw_laws.proofs.Whole.{Keeps, acts_next, sent_next, emits_few, one_more, unsaid, unsaid_with, start_with, keeps_after, both, acts_none}
+use Rattle.iw_laws.proofs.Whole.{Keeps, acts_next, sent_next, emits_few, one_more, unsaid, keeps_after, both, acts_none}
 
 -- the octets emitted on a stream
 abbrev sent_on : ℕ → List (Act Octets) → ℕ
@@ -164,12 +164,17 @@ few_none x n = omega arith
 few_all : (trace : List (Entry Octets)) → Follows start trace → Few trace
 few_all trace follows = few_onward [] trace start unsaid few_none follows
 
--- the same where streams are opened under numbers that an end is given
-few_wide : (past rest : List (Entry Octets)) (w : State) → Keeps past w → Few past → FollowsWide w rest → Few (past ++ rest)
-few_wide past [] w k few follows = subst Few (sym (append-nil past)) few
-few_wide past (e ∷ rest) w k few follows =
+-- the same of what is a run
+few_from : (past rest : List (Entry Octets)) → ((front future : List (Entry Octets)) → rest ≡ front ++ future → Moment (past ++ front) future) → Few past → Few (past ++ rest)
+few_from past [] at few = subst Few (sym (append-nil past)) few
+few_from past (e ∷ rest) at few =
+    let m : Moment (past ++ []) (e ∷ rest) = at [] (e ∷ rest) refl in
+    let k : Keeps past m.state = subst (λ p. Keeps p m.state) (append-nil past) m.keeps in
     subst Few (append_assoc past (e ∷ []) rest)
-    (few_wide (past ++ e ∷ []) rest (left_entry w e) (wide_more past w e k follows.0) (few_step past w e k few (wide_plain (end_of e.end w) (end_of (other e.end) w) e.act follows.0)) follows.1)
+    (few_from (past ++ e ∷ []) rest (λ front future is. subst (λ p. Moment p future) (sym (append_assoc past (e ∷ []) front)) (at (e ∷ front) future (ap (λ z. e ∷ z) is))) (few_step past m.state e k few m.next))
+
+few_run : (trace : List (Entry Octets)) → Run trace → Few trace
+few_run trace run = few_from [] trace run few_none
 
 -- so, in a trace that is not too long, no stream has come far
 short_end : (trace : List (Entry Octets)) (w : State) → Keeps trace w → Few trace → length trace < 2 ^ 45 → (x : End) → IsShortEnd (end_of x w)
@@ -222,10 +227,11 @@ told_few name (e ∷ es) = omega (arith, told_few name es, length-append (at_end
     one name x (servers.OpenSharedNext pd role options private (Err refusal)) = omega arith
     one name x (servers.Read n from number octets delivery) = omega arith
     one name x (servers.ReadRaw n number octets delivery) = omega arith
+    one name x (servers.RegisterFor n base rights octets answer) = omega arith
     one name x (servers.Close n refused) = omega arith
 
-short_alike : (name : ℕ → ℕ) (size : ℕ) (s g : EndState) → Alike name size s g → IsShortEnd g → IsShortEnd s
-short_alike name size s g k short = record {
+short_alike : (name number : ℕ → ℕ) (size : ℕ) (s g : EndState) → Alike name number size s g → IsShortEnd g → IsShortEnd s
+short_alike name number size s g k short = record {
   laid = k.laid;
   streams = λ n. go n (stream_of s.endpoint n) refl;
   wires = λ n. subst (λ z. length z ≤ 2 ^ 62) (k.wires n) (short.wires (name n));
@@ -235,15 +241,11 @@ short_alike name size s g k short = record {
     go n None is = subst (λ o. IsShort (unwrap_or o unopened)) (sym is) (record { sent = omega arith; point = omega arith })
     go n (Some c) is =
         subst (λ o. IsShort (unwrap_or o unopened)) (sym is)
-        (let h : IsShort (under (Some (name n)) c) = subst (λ o. IsShort (unwrap_or o unopened)) (k.streams n c is) (short.streams (name n)) in record { sent = h.sent; point = h.point })
+        (let h : IsShort (under (Some (number n)) c) = subst (λ o. IsShort (unwrap_or o unopened)) (k.streams n c is) (short.streams (name n)) in record { sent = h.sent; point = h.point })
 
 -- in a run that is not too long, no stream of a server has come far
 pub short_server : (name : Connections) (trace : List (ServerEntry Octets)) → AreApart name → ServerFollows name start trace → length trace < 2 ^ 45 → IsShortState (server_state_after start trace)
 short_server name trace apart follows bound x =
-    let size : ℕ = asked_for name trace in
     let walked = served name trace apart follows in
-    let first : Keeps [] (start_with size) = unsaid_with size (many_asked name trace) in
-    let w : State = left_all (start_with size) (told name trace) in
-    let k : Keeps (told name trace) w = wide_onward [] (told name trace) (start_with size) first walked.0 in
-    let few : Few (told name trace) = few_wide [] (told name trace) (start_with size) first few_none walked.0 in
-    short_alike (name x) size (end_of x (server_state_after start trace)) (end_of x w) (walked.1 x) (short_end (told name trace) w k few (omega (arith, bound, told_few name trace)) x)
+    let few : Few (told name trace) = few_run (told name trace) (server_run name trace apart follows) in
+    short_alike (name x) (by_number x) (asked_for name trace) (end_of x (server_state_after start trace)) (end_of x walked.last) (walked.alike x) (short_end (told name trace) walked.last walked.keeps few (omega (arith, bound, told_few name trace)) x)

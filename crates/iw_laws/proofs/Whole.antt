@@ -6,7 +6,6 @@ use Rattle.std.proofs.lemmas.List.{append-nil, length-replicate}
 use Rattle.std.proofs.lemmas.Bool.{eq-eqb, false≢true, true≢false}
 use Rattle.iw_ranges.specs.Nearest.{place_near, before_start}
 use Rattle.iw_octets.specs.Segment.{segment_octets}
-use Rattle.iw_memory.specs.declared.peer.Peer.{Peer}
 use Rattle.iw_memory.specs.Table.{Table}
 use Rattle.iw_ranges.specs.declared.Delivery.TheVariants.{Kept, Dropped}
 use Rattle.iw_ranges.specs.Arrived.{nothing, taken_in, advanced}
@@ -70,7 +69,7 @@ use Rattle.iw_laws.proofs.Releases.{IsLeft, Still, left_apart, nothing_given}
 use Rattle.iw_laws.proofs.Fills.{nothing_placed}
 use Rattle.iw_laws.proofs.Owns.{same_merges, Own, answers_part, first_fits, Emits, out_of, lives, all_spoken, word_unbroken, runs_unbroken, Unspoken, IsStartOf, past_start}
 use Rattle.iw_laws.proofs.Pools.{told_by, tale, tale_seen, Holds, PoolsSeen, HeldAt, next_held, pools_next, seen_held}
-use Rattle.iw_laws.proofs.Ends.{EndSeen, Opens, end_step, opens, numbered_open, numbered_shared, opens_same, at_act, at_same, at_other, number_there, unopened, opening_none, opening_one}
+use Rattle.iw_laws.proofs.Ends.{EndSeen, IsTold, told_step, Opens, end_step, opens, numbered_open, numbered_shared, opens_same, at_act, at_same, at_other, number_there, unopened, opening_none, opening_one}
 
 -- a stream at both ends, with what the acts say of each; if no octets strayed, what came is what the other end sent
 pub record Pair (l : Opening) (c : Connected) (t : Tale) (m : Opening) (d : Connected) (u : Tale) : Type 0 where
@@ -384,17 +383,17 @@ unfolding sent
 nothing_sent = refl
 
 -- a stream is opened, and this end is left
-pub opened_pair : (s s' : EndState) (done : List (Act Octets)) (act : Act Octets) (m n : ℕ) (o l : Opening) (d : Connected) (u : Tale) → EndSeen s done → Opens s m → OpensFit o → openings_by n act ≡ cond (eqb m n) (o ∷ []) []
-    → s'.endpoint.streams ≡ slice_set s.endpoint.streams m (Some (connected o (Some m)).stream) → wire_at s' n ≡ wire_at s n → stream_acts_by n act ≡ [] → Pair (opening_of n done) (connected_at s n) (tale n done) l d u
+pub opened_pair : (s s' : EndState) (done : List (Act Octets)) (act : Act Octets) (m n number : ℕ) (o l : Opening) (d : Connected) (u : Tale) → EndSeen s done → Opens s m → OpensFit o → openings_by n act ≡ cond (eqb m n) (o ∷ []) []
+    → s'.endpoint.streams ≡ slice_set s.endpoint.streams m (Some (connected o (Some number)).stream) → wire_at s' n ≡ wire_at s n → stream_acts_by n act ≡ [] → Pair (opening_of n done) (connected_at s n) (tale n done) l d u
     → Pair (opening_of n (done ++ act ∷ [])) (connected_at s' n) (tale n (done ++ act ∷ [])) l d u
-opened_pair s s' done act m n o l d u k new asks one left wire silent p = go (eqb m n) refl
+opened_pair s s' done act m n number o l d u k new asks one left wire silent p = go (eqb m n) refl
   where
     go : (b : Bool) → eqb m n ≡ b → Pair (opening_of n (done ++ act ∷ [])) (connected_at s' n) (tale n (done ++ act ∷ [])) l d u
-    go false e = same_stream s s' act n done l d u (ap (λ xs. slice_index_or xs n None) left ∙ at_other s m n (Some (connected o (Some m)).stream) e) wire (one ∙ opening_none (eqb m n) o e) silent p
+    go false e = same_stream s s' act n done l d u (ap (λ xs. slice_index_or xs n None) left ∙ at_other s m n (Some (connected o (Some number)).stream) e) wire (one ∙ opening_none (eqb m n) o e) silent p
     go true e =
         let same : m ≡ n = eqb-true m n e in
-        let here : stream_of s'.endpoint n ≡ Some (connected o (Some m)).stream =
-        ap (λ xs. slice_index_or xs n None) left ∙ subst (λ j. slice_index_or (slice_set s.endpoint.streams m (Some (connected o (Some m)).stream)) j None ≡ Some (connected o (Some m)).stream) same (at_same s m (connected o (Some m)).stream new.number) in
+        let here : stream_of s'.endpoint n ≡ Some (connected o (Some number)).stream =
+        ap (λ xs. slice_index_or xs n None) left ∙ subst (λ j. slice_index_or (slice_set s.endpoint.streams m (Some (connected o (Some number)).stream)) j None ≡ Some (connected o (Some number)).stream) same (at_same s m (connected o (Some number)).stream new.number) in
         let closed : has_stream s.endpoint n ≡ false = subst (λ j. has_stream s.endpoint j ≡ false) same new.fresh in
         let before : openings n done ≡ [] = unopened (openings n done) (sym (k.opened n) ∙ closed) in
         let now : opening_of n (done ++ act ∷ []) ≡ o = ap opening_in (openings-push n done act ∙ (λ i. before i ++ (one ∙ opening_one (eqb m n) o e) i)) in
@@ -402,7 +401,7 @@ opened_pair s s' done act m n o l d u k new asks one left wire silent p = go (eq
         let queue : (pooling (done ++ act ∷ [])).queues n ≡ sharing = same_queue n done act silent ∙ queue_unused n done (k.unused n closed) in
         let quiet : [] ≡ wire_at s' n = sym (wire ∙ p.own.own.wire ∙ ap sent (k.unused n closed) ∙ nothing_sent) in
         moved l d u (sym now) (λ i. record { stream = unwrap_or (sym here i) no_stream; wire = quiet i }) (sym (first_told o) ∙ (λ i. told_by (sym now i).shared (sym now i) (sym none i) (sym queue i)))
-        (reopened o (opening_of n done) l (Some m) (connected_at s n) (opening_of n done).shared ((pooling done).queues n) (stream_acts n done) d u asks (k.unused n closed) p)
+        (reopened o (opening_of n done) l (Some number) (connected_at s n) (opening_of n done).shared ((pooling done).queues n) (stream_acts n done) d u asks (k.unused n closed) p)
 
 -- an act of the stream itself
 acted_here : (s peer : EndState) (done : List (Act Octets)) (act : StreamAct Octets) (n : ℕ) (l : Opening) (u : Tale) → EndSeen s done → PoolsSeen s done → Rule s peer (Stream n act) → Pair (opening_of n done) (connected_at s n) (tale n done) l (connected_at peer n) u
@@ -455,9 +454,9 @@ acted s peer done (Unpool pd answer) n l u k pools rule p = stream_kept s (Unpoo
 acted s peer done (Open m pd role options private (Some refusal)) n l u k pools rule p = stream_kept s (Open m pd role options private (Some refusal)) n done l (connected_at peer n) u rule.0 refl refl refl p
 acted s peer done (OpenShared m pd role options private (Some refusal)) n l u k pools rule p = stream_kept s (OpenShared m pd role options private (Some refusal)) n done l (connected_at peer n) u rule.0 refl refl refl p
 acted s peer done (Open m pd role options private None) n l u k pools rule p =
-    opened_pair s (end_after s (Open m pd role options private None)) done (Open m pd role options private None) m n (opening_by false pd role options private) l (connected_at peer n) u k (opens s m pd k.domains (numbered_open s.endpoint m pd role (config_for options private) rule.0)) (open_fits s.endpoint m pd role options private rule.0) refl (streams_left s.endpoint (Open m pd role options private None) rule.0) refl refl p
+    opened_pair s (end_after s (Open m pd role options private None)) done (Open m pd role options private None) m n m (opening_by false pd role options private) l (connected_at peer n) u k (opens s m pd k.domains (numbered_open s.endpoint m pd role (config_for options private) rule.0)) (open_fits s.endpoint m pd role options private rule.0) refl (streams_left s.endpoint (Open m pd role options private None) rule.0) refl refl p
 acted s peer done (OpenShared m pd role options private None) n l u k pools rule p =
-    opened_pair s (end_after s (OpenShared m pd role options private None)) done (OpenShared m pd role options private None) m n (opening_by true pd role options private) l (connected_at peer n) u k (opens s m pd k.domains (numbered_shared s.endpoint m pd role (config_for options private) rule.0)) (shared_fits s.endpoint m pd role options private rule.0) refl (streams_left s.endpoint (OpenShared m pd role options private None) rule.0) refl refl p
+    opened_pair s (end_after s (OpenShared m pd role options private None)) done (OpenShared m pd role options private None) m n m (opening_by true pd role options private) l (connected_at peer n) u k (opens s m pd k.domains (numbered_shared s.endpoint m pd role (config_for options private) rule.0)) (shared_fits s.endpoint m pd role options private rule.0) refl (streams_left s.endpoint (OpenShared m pd role options private None) rule.0) refl refl p
 acted s peer done (Stream m act) n l u k pools rule p = go (eqb m n) refl
   where
     go : (b : Bool) → eqb m n ≡ b → Pair (opening_of n (done ++ Stream m act ∷ [])) (connected_at (end_after s (Stream m act)) n) (tale n (done ++ Stream m act ∷ [])) l (connected_at peer n) u
@@ -526,6 +525,10 @@ emits_few opening table c t Break rule o = omega arith
 abbrev pub PairAt : EndState → List (Act Octets) → EndState → List (Act Octets) → ℕ → Type 0
 PairAt s own peer others n = Pair (opening_of n own) (connected_at s n) (tale n own) (opening_of n others) (connected_at peer n) (tale n others)
 
+-- the end with these regions
+abbrev pub retabled : EndState → Table → EndState
+retabled s t = record s { endpoint = record s.endpoint { table = t } }
+
 -- what the entries and the state have in common
 pub record Keeps (trace : List (Entry Octets)) (w : State) : Type 0 where
   pub ends : (x : End) → EndSeen (end_of x w) (acts x trace)
@@ -587,6 +590,59 @@ one_more trace w e k rule =
     (pools_next s (acts x trace) e.act (k.ends x) (k.pools x) rule.0 (λ n. (k.pairs x n).own))
     (λ n. acted s peer (acts x trace) e.act n (opening_of n (acts (other x) trace)) (tale n (acts (other x) trace)) (k.ends x) (k.pools x) rule (k.pairs x n))
 
+-- the regions of this end are others: of as many domains
+pub keeps_retabled : (trace : List (Entry Octets)) (w : State) (x : End) (t : Table) → Keeps trace w → length t ≡ length (end_of x w).endpoint.table → Keeps trace (with_end x (retabled (end_of x w) t) w)
+keeps_retabled trace w x t k same = by x same
+  where
+    end_retabled : (y : End) → length t ≡ length (end_of y w).endpoint.table → EndSeen (retabled (end_of y w) t) (acts y trace)
+    end_retabled y same = record {
+      domains = (same ∙ (k.ends y).domains.0, (k.ends y).domains.1, (k.ends y).domains.2);
+      wires = (k.ends y).wires;
+      none_closed = (k.ends y).none_closed;
+      opened = (k.ends y).opened;
+      domain = (k.ends y).domain;
+      pooled = (k.ends y).pooled;
+      unused = (k.ends y).unused;
+    }
+
+    by : (y : End) → length t ≡ length (end_of y w).endpoint.table → Keeps trace (with_end y (retabled (end_of y w) t) w)
+    by A same = record {
+      ends = both (λ z. EndSeen (end_of z (with_end A (retabled w.a t) w)) (acts z trace)) A (end_retabled A same) (k.ends B);
+      pools = both (λ z. PoolsSeen (end_of z (with_end A (retabled w.a t) w)) (acts z trace)) A (k.pools A) (k.pools B);
+      pairs = both (λ z. (n : ℕ) → PairAt (end_of z (with_end A (retabled w.a t) w)) (acts z trace) (end_of (other z) (with_end A (retabled w.a t) w)) (acts (other z) trace) n) A (k.pairs A) (k.pairs B);
+    }
+    by B same = record {
+      ends = both (λ z. EndSeen (end_of z (with_end B (retabled w.b t) w)) (acts z trace)) B (end_retabled B same) (k.ends A);
+      pools = both (λ z. PoolsSeen (end_of z (with_end B (retabled w.b t) w)) (acts z trace)) B (k.pools B) (k.pools A);
+      pairs = both (λ z. (n : ℕ) → PairAt (end_of z (with_end B (retabled w.b t) w)) (acts z trace) (end_of (other z) (with_end B (retabled w.b t) w)) (acts (other z) trace) n) B (k.pairs B) (k.pairs A);
+    }
+
+-- ---- regions as they were told
+
+abbrev pub AreTold : List (Entry Octets) → State → Type 0
+AreTold trace w = (x : End) → IsTold (end_of x w) (acts x trace)
+
+-- an act leaves this end, and the other as it was
+pub told_moved : (trace : List (Entry Octets)) (w : State) (x : End) (act : Act Octets) (s' : EndState) → AreTold trace w → IsTold s' (acts x trace ++ act ∷ []) → AreTold (trace ++ record { end = x; act = act } ∷ []) (with_end x s' w)
+told_moved trace w x act s' told new =
+    let e : Entry Octets = record { end = x; act = act } in
+    let y : End = other x in
+    let P : End → Type 0 = λ v. IsTold (end_of v (with_end x s' w)) (acts v (trace ++ e ∷ [])) in
+    let here : P x = subst (λ z. IsTold z (acts x (trace ++ e ∷ []))) (sym (changed x s' w)) (subst (IsTold s') (sym (acts_mine trace e)) new) in
+    let there : P y = subst (λ z. IsTold z (acts y (trace ++ e ∷ []))) (sym (unchanged x s' w)) (subst (IsTold (end_of y w)) (sym (acts_other trace e)) (told y)) in
+    both P x here there
+
+pub told_more : (trace : List (Entry Octets)) (w : State) (e : Entry Octets) → Keeps trace w → Rule (end_of e.end w) (end_of (other e.end) w) e.act → AreTold trace w → AreTold (trace ++ e ∷ []) (after_entry w e)
+told_more trace w e k rule told =
+    let x : End = e.end in
+    told_moved trace w x e.act (end_after (end_of x w) e.act) told (told_step (end_of x w) (end_of (other x) w) (acts x trace) e.act (k.ends x) rule (told x))
+
+pub told_onward : (past rest : List (Entry Octets)) (w : State) → Keeps past w → AreTold past w → Follows w rest → AreTold (past ++ rest) (state_after w rest)
+told_onward past [] w k told follows = subst (λ p. AreTold p w) (sym (append-nil past)) told
+told_onward past (e ∷ rest) w k told follows =
+    subst (λ p. AreTold p (state_after (after_entry w e) rest)) (append_assoc past (e ∷ []) rest)
+    (told_onward (past ++ e ∷ []) rest (after_entry w e) (one_more past w e k follows.0) (told_more past w e k follows.0 told) follows.1)
+
 -- from a moment on, to the end of what follows the rules
 pub onward : (past rest : List (Entry Octets)) (w : State) → Keeps past w → Follows w rest → Keeps (past ++ rest) (state_after w rest)
 onward past [] w k follows = subst (λ p. Keeps p w) (sym (append-nil past)) k
@@ -635,14 +691,13 @@ no_wire (suc size) zero = refl
 no_wire (suc size) (suc n) = no_wire size n
 
 fresh_end : (size : ℕ) (x : End) → 64 ≤ size → EndSeen (end_with size) (acts x [])
-unfolding acts openings stream_acts table_after
+unfolding acts openings stream_acts
 fresh_end size x many = record {
-  table = refl;
   domains = (fresh_domains.0, fresh_domains.1, omega (arith, many, length-replicate {A = Option StreamState} size None));
   wires = length-replicate {A = Octets} size [] ∙ sym (length-replicate {A = Option StreamState} size None);
   none_closed = refl;
   opened = λ n. ap is_some (none_at size n);
-  peer = λ n h. absurd (false≢true (ap is_some (sym (none_at size n)) ∙ h));
+  domain = λ n h. absurd (false≢true (ap is_some (sym (none_at size n)) ∙ h));
   pooled = λ n h. absurd (false≢true (ap is_some (sym (none_at size n)) ∙ h));
   unused = λ n h. refl;
 }
@@ -689,6 +744,15 @@ unsaid_with size many = record { ends = start_end; pools = start_pools; pairs = 
         moved (opening_of n (acts (other x) [])) (connected_at (end_of (other x) (start_with size)) n) (tale n (acts (other x) [])) (nothing_opened n x) (start_at size n x) (nothing_said n x)
         (swapped (moved no_opening unconnected (tale_of no_opening []) (nothing_opened n (other x)) (start_at size n (other x)) (nothing_said n (other x)) no_pair))
 
+pub told_with : (size : ℕ) → AreTold [] (start_with size)
+unfolding acts table_after
+told_with size A = record { table = refl; numbers = λ n c is. absurd (none-some c (sym (none_at size n) ∙ is)) }
+told_with size B = record { table = refl; numbers = λ n c is. absurd (none-some c (sym (none_at size n) ∙ is)) }
+
+pub told_first : AreTold [] start
+unfolding no_streams no_wires
+told_first = told_with 64
+
 pub unsaid : Keeps [] start
 unfolding no_streams no_wires
 unsaid = unsaid_with 64 (omega arith)
@@ -706,7 +770,7 @@ pool_is : (s : EndState) (done : List (Act Octets)) (n : ℕ) → EndSeen s done
 pool_is s done n k pools shared = go (has_stream s.endpoint n) refl
   where
     go : (b : Bool) → has_stream s.endpoint n ≡ b → pool_of s.endpoint (stream_at s.endpoint n).domain ≡ pool_by (domain_of n done) done
-    go true e = pools (stream_at s.endpoint n).domain ∙ ap (λ d. pool_by d done) (ap (λ (p : Peer). p.domain) (k.peer n e))
+    go true e = pools (stream_at s.endpoint n).domain ∙ ap (λ d. pool_by d done) (k.domain n e)
     go false e = absurd (false≢true (ap (λ os. (opening_in os).shared) (sym (unopened (openings n done) (sym (k.opened n) ∙ e))) ∙ shared))
 
 abbrev PairSeenAt : EndState → List (Act Octets) → EndState → List (Act Octets) → ℕ → Type 0

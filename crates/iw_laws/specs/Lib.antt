@@ -14,6 +14,7 @@ pub mod Calls
 pub mod Plain
 pub mod Servers
 pub mod ServerLaws
+pub mod ServerRegions
 pub mod ServerStops
 pub mod Holds
 pub mod Busy

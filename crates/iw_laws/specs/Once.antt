@@ -101,7 +101,12 @@ pub record AreOnce (spans : List (Option Span)) : Type 0 where
   pub are : spans ≡ map Some known
   pub apart : NoneOverlap known
 
+-- no two frames of a stream that were placed overlap
+abbrev pub NonePlacedTwice : List (Entry Octets) → Type 0
+NonePlacedTwice trace =
+    (past future : List (Entry Octets)) → trace ≡ past ++ future → (x : End) (n : ℕ) → AreOnce (spans_placed (opening_of n (acts x past)) (stream_acts n (acts x past)))
+
 -- each placement is that of the frame that is judged then, as things then stand, and no two of these frames of a stream overlap
 pub record PlacesOnce (trace : List (Entry Octets)) : Type 0 where
   pub placements : AtEach (OnStream PlacedStream) trace
-  pub once : (past future : List (Entry Octets)) → trace ≡ past ++ future → (x : End) (n : ℕ) → AreOnce (spans_placed (opening_of n (acts x past)) (stream_acts n (acts x past)))
+  pub once : NonePlacedTwice trace

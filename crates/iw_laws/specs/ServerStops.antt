@@ -2,7 +2,7 @@
 use Rattle.std.specs.Prelude.{◌≡◌, ℕ, ◌+◌, false, List, ◌∷◌, ◌++◌, map, length, Some}
 use Rattle.iw_events.specs.declared.call.Call.TheVariants as calls
 use Rattle.iw_events.specs.declared.server.ServerCall.{ServerCall}
-use Rattle.iw_events.specs.declared.server.ServerCall.TheVariants.{Plain, Stream, OpenNext, OpenSharedNext, Close}
+use Rattle.iw_events.specs.declared.server.ServerCall.TheVariants.{Plain, Stream, OpenNext, OpenSharedNext, RegisterFor, Close}
 use Rattle.iw_events.specs.declared.server.ServerEvent.{ServerEvent}
 use Rattle.iw_events.specs.declared.server.ServerEntry.{ServerEntry}
 use Rattle.iw_events.specs.Servers.{server_event_of}
@@ -21,6 +21,7 @@ LacksServerStream s peer (Plain call) = LacksStream s peer call
 LacksServerStream s peer (Stream n call) = LacksStream s peer (calls.Stream n call)
 LacksServerStream s peer (OpenNext pd role options private) = ⊥
 LacksServerStream s peer (OpenSharedNext pd role options private) = ⊥
+LacksServerStream s peer (RegisterFor n base rights octets) = has_stream s.endpoint n ≡ false
 LacksServerStream s peer (Close n) = has_stream s.endpoint n ≡ false
 
 -- the call has its streams, and delivers octets that were not emitted
@@ -29,6 +30,7 @@ AsksServerTooMuch s peer (Plain call) = AsksTooMuch s peer call
 AsksServerTooMuch s peer (Stream n call) = AsksTooMuch s peer (calls.Stream n call)
 AsksServerTooMuch s peer (OpenNext pd role options private) = ⊥
 AsksServerTooMuch s peer (OpenSharedNext pd role options private) = ⊥
+AsksServerTooMuch s peer (RegisterFor n base rights octets) = ⊥
 AsksServerTooMuch s peer (Close n) = ⊥
 
 -- the events before the n-th have answers that follow the rules, and the n-th is so in the state that they leave

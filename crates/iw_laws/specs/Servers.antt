@@ -1,7 +1,10 @@
 -- Runs of ends that serve any number of connections: streams of any number, which come and go.
 use Rattle.std.specs.Prelude.{◌≡◌, ℕ, List, [], ◌∷◌, ◌++◌, length, map, Bool, true, nat_le, nat_lt, unwrap_or, if◌then◌else◌, Some, None, Ok, Err}
+use Rattle.std.specs.Result.{result_map_both}
+use Rattle.iw_memory.specs.Table.{next_stag}
 use Rattle.iw_stream.specs.Reading.{number_past}
-use Rattle.iw_endpoint.specs.Endpoint.{EndpointState, has_stream, stream_at, stream_numbers, is_taken, next_number, next_refusal, next_shared_refusal, rest_refusal}
+use Rattle.iw_endpoint.specs.declared.refusal.CallRefusal.TheVariants.{Refused}
+use Rattle.iw_endpoint.specs.Endpoint.{EndpointState, has_stream, stream_at, stream_numbers, is_taken, next_number, next_refusal, next_shared_refusal, limit_refusal, rest_refusal}
 use Rattle.iw_endpoint.specs.Isolation as calls
 use Rattle.iw_endpoint.specs.Isolation.{answer_or, after}
 use Rattle.iw_events.specs.declared.call.End.{End}
@@ -12,7 +15,7 @@ use Rattle.iw_events.specs.declared.act.StreamAct.{StreamAct}
 use Rattle.iw_events.specs.declared.act.StreamAct.TheVariants.{Deliver, Raw}
 use Rattle.iw_events.specs.declared.act.Entry.{Entry}
 use Rattle.iw_events.specs.declared.server.ServerAct.{ServerAct}
-use Rattle.iw_events.specs.declared.server.ServerAct.TheVariants.{Plain, Stream, OpenNext, OpenSharedNext, Read, ReadRaw, Close}
+use Rattle.iw_events.specs.declared.server.ServerAct.TheVariants.{Plain, Stream, OpenNext, OpenSharedNext, Read, ReadRaw, RegisterFor, Close}
 use Rattle.iw_events.specs.declared.server.ServerEntry.{ServerEntry}
 use Rattle.iw_laws.specs.Words.{Octets, other, config_for, OnSome, of_stream}
 use Rattle.iw_laws.specs.Rules.{EndState, State, end_of, with_end, wire_at, wires_after, EndRule, WireRule, needs_peer, call_made, stream_call_made}
@@ -45,7 +48,7 @@ plain_told name (acts.Share pd refused) = acts.Share pd refused ∷ []
 plain_told name (acts.Pool pd len refused) = acts.Pool pd len refused ∷ []
 plain_told name (acts.Unpool pd answer) = acts.Unpool pd answer ∷ []
 
--- a stream that is given a number is opened; octets that are read are delivered; a close tells nothing
+-- a stream that is given a number is opened; octets that are read are delivered; a region for one stream and a close tell nothing
 abbrev pub told_by : (ℕ → ℕ) → ServerAct Octets → List (Act Octets)
 told_by name (Plain act) = plain_told name act
 told_by name (Stream n act) = acts.Stream (name n) act ∷ []
@@ -55,6 +58,7 @@ told_by name (OpenSharedNext pd role options private (Ok n)) = acts.OpenShared (
 told_by name (OpenSharedNext pd role options private (Err refusal)) = []
 told_by name (Read n from number octets delivery) = acts.Stream (name n) (Deliver from number octets delivery) ∷ []
 told_by name (ReadRaw n number octets delivery) = acts.Stream (name n) (Raw number octets delivery) ∷ []
+told_by name (RegisterFor n base rights octets answer) = []
 told_by name (Close n refused) = []
 
 abbrev pub at_end : End → List (Act Octets) → List (Entry Octets)
@@ -89,6 +93,7 @@ ServerPeerRule own other peer (Read n from number octets delivery) = PlainPeerRu
 ServerPeerRule own other peer (ReadRaw n number octets delivery) = Unit {0}
 ServerPeerRule own other peer (OpenNext pd role options private answer) = Unit {0}
 ServerPeerRule own other peer (OpenSharedNext pd role options private answer) = Unit {0}
+ServerPeerRule own other peer (RegisterFor n base rights octets answer) = Unit {0}
 ServerPeerRule own other peer (Close n refused) = Unit {0}
 
 -- the right answer at an end, whatever is done at the other
@@ -102,6 +107,9 @@ ServerEndRule s (OpenSharedNext pd role options private answer) =
 -- octets are read past the last that came
 ServerEndRule s (Read n from number octets delivery) = (number ≡ number_past (stream_at s.endpoint n)) × EndRule s.endpoint (acts.Stream n (Deliver from number octets delivery))
 ServerEndRule s (ReadRaw n number octets delivery) = (number ≡ number_past (stream_at s.endpoint n)) × EndRule s.endpoint (acts.Stream n (Raw number octets delivery))
+ServerEndRule s (RegisterFor n base rights octets answer) =
+    (has_stream s.endpoint n ≡ true)
+    × (result_map_both (λ stag. stag) Refused answer ≡ answer_or (limit_refusal s.endpoint n base (length octets)) (next_stag s.endpoint.table (stream_at s.endpoint n).domain))
 ServerEndRule s (Close n refused) = (has_stream s.endpoint n ≡ true) × (refused ≡ rest_refusal (stream_at s.endpoint n))
 
 -- the right answer at an end of two, where the streams of both belong to these connections
@@ -118,6 +126,7 @@ server_call e (OpenNext pd role options private answer) = calls.OpenNext (next_n
 server_call e (OpenSharedNext pd role options private answer) = calls.OpenSharedNext (next_number e) pd role (config_for options private)
 server_call e (Read n from number octets delivery) = calls.AtStream n (calls.Deliver number octets)
 server_call e (ReadRaw n number octets delivery) = calls.AtStream n (calls.Deliver number octets)
+server_call e (RegisterFor n base rights octets answer) = calls.AtStream n (calls.RegisterFor base octets rights)
 server_call e (Close n refused) = calls.AtStream n calls.Close
 
 -- a number that is given has emitted nothing; what a stream emitted stays when it is closed, and may be on its way
@@ -130,6 +139,7 @@ server_wires wires (OpenSharedNext pd role options private (Ok n)) = wires ++ []
 server_wires wires (OpenSharedNext pd role options private (Err refusal)) = wires
 server_wires wires (Read n from number octets delivery) = wires
 server_wires wires (ReadRaw n number octets delivery) = wires
+server_wires wires (RegisterFor n base rights octets answer) = wires
 server_wires wires (Close n refused) = wires
 
 abbrev pub server_after : EndState → ServerAct Octets → EndState

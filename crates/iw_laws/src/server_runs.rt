@@ -3,6 +3,7 @@
 
 ghost use Rattle.iw_laws.specs.ServerRuns.{RefusesRestClosed, RefusesClosedTwice, RefusesGivenTwice};
 ghost use Rattle.iw_laws.specs.ServerRuns.{RefusesPickedClosed, RefusesSkippedGiven};
+ghost use Rattle.iw_laws.specs.ServerRuns.{RefusesLimitedClosed, RefusesSkippedLimited, RefusesWrittenElsewhere};
 
 /// A stream that was closed does not rest.
 pub fn refuses_rest_closed()
@@ -27,4 +28,19 @@ pub fn refuses_picked_closed()
 /// Of two Sends the second is not received in place of the first, on a stream that was given its number either.
 pub fn refuses_skipped_given()
     ensures { RefusesSkippedGiven }
+{}
+
+/// No region is registered for a stream that was closed.
+pub fn refuses_limited_closed()
+    ensures { RefusesLimitedClosed }
+{}
+
+/// Of two Sends the second is not received in place of the first, where a region is limited to the stream either.
+pub fn refuses_skipped_limited()
+    ensures { RefusesSkippedLimited }
+{}
+
+/// No octets of one stream are placed in a region that is limited to another.
+pub fn refuses_written_elsewhere()
+    ensures { RefusesWrittenElsewhere }
 {}

@@ -1,12 +1,12 @@
 //! Runs of ends that serve any number of connections keep the laws.
 //!
-//! Such a run also opens streams under numbers that it is given, reads in place, and closes streams
-//! ([`iw_events::ServerEntry`]). Two streams, one at each end, are connected if they belong to one connection, whatever
+//! Such a run also opens streams under numbers that it is given, reads in place, registers regions for one stream alone, and
+//! closes streams ([`iw_events::ServerEntry`]). Two streams, one at each end, are connected if they belong to one connection, whatever
 //! numbers they have. The run follows the rules if each answer is that of the endpoint in the state that the entries before
 //! leave. What it tells, in words of schedules, is what it did: each stream under the name of its connection, opened where
-//! it was given its number, each read as the delivery that it is, and of a close nothing.
+//! it was given its number, each read as the delivery that it is, and of a close, and of a region for one stream, nothing.
 
-ghost use Rattle.iw_laws.specs.ServerLaws.{OfServers, OfServerRuns, GivesOnce, ClosedIsOver, CloseLeavesOthers};
+ghost use Rattle.iw_laws.specs.ServerLaws.{OfServers, OfUnlimited, OfServerRuns, GivesOnce, ClosedIsOver, CloseLeavesOthers, CloseLeavesRegions};
 ghost use Rattle.iw_laws.specs.Safe.{InOrder, Covered, Within};
 ghost use Rattle.iw_laws.specs.Faithful.{Faithful, Answering};
 ghost use Rattle.iw_laws.specs.Sends.{Emission, Sized, Speaks, NothingOnlyAtRest, Finished, FewReads};
@@ -16,13 +16,14 @@ ghost use Rattle.iw_laws.specs.AtRest.{AllArrived};
 ghost use Rattle.iw_laws.specs.Busy.{WorkComesToRest};
 ghost use Rattle.iw_laws.specs.Holds.{HoldsWritten, HoldsFetched};
 ghost use Rattle.iw_laws.specs.Early.{JudgesEarly, ChecksOnce};
-ghost use Rattle.iw_laws.specs.Once.{PlacesOnce};
+ghost use Rattle.iw_laws.specs.Once.{PlacesOnce, NonePlacedTwice};
 ghost use Rattle.iw_laws.specs.Ends.{Ends};
 ghost use Rattle.iw_laws.specs.Calls.{Answered, KeepsOctets, CarriesOctets, OpensFirst};
 ghost use Rattle.iw_laws.specs.Plain.{ShowsRegions};
+ghost use Rattle.iw_laws.specs.ServerRegions.{OfServerRegions, WithinAs, FetchAs, TurnsAs, EarlyAs, SecondAs, PlacedAs, ServerShowsRegions};
 
-/// Each law of schedules that names a stream holds of the streams of servers, whatever their numbers, and whichever streams
-/// are connected.
+/// Each law of schedules that names a stream, and does not speak of the regions as they stand, holds of the streams of servers,
+/// whatever their numbers, and whichever streams are connected.
 pub fn keep_the_laws()
     // What was received is a prefix of what was sent.
     ensures in_order { OfServers InOrder }
@@ -47,39 +48,68 @@ pub fn keep_the_laws()
     ensures carried { OfServers CarriesOctets }
     // Octets that come are kept, unless the stream has ended or there is no room for them.
     ensures kept { OfServers KeepsOctets }
-    // Each frame that came is judged, and has its turn, in order, while the stream is open and has not ended.
-    ensures turns { OfServers Turns }
+    // No two frames that were placed overlap.
+    ensures none_twice { OfServers NonePlacedTwice }
     // Work answers idle only if no frame can be judged or have its turn, and no message can be handed back.
     ensures idle { OfServers IdleOnlyAtRest }
     // Then, if all came that the other end sent, all messages have arrived that it sent whole.
     ensures arrived { OfServers AllArrived }
     // Of steps of work one after another, so many at most are not idle, unless the stream ends.
     ensures rests { OfServers WorkComesToRest }
-    // Then no frame is left that could be judged before its turn. A frame judged so is placed at once, or left.
-    ensures early { OfServers JudgesEarly }
-    // A frame that was placed is not checked again at its turn, except for the order of segments.
-    ensures no_second_check { OfServers ChecksOnce }
-    // Each placement is that of another frame, and no two of these frames overlap.
-    ensures once { OfServers PlacesOnce }
     // A stream that has ended hands back what was posted, the messages first, and sends only what is still due.
     ensures ended { OfServers Ends }
-    // Every octet that a stream changed lay where it was allowed to.
-    ensures within { OfServers Within }
-    // A Read Response has only octets that were fetched for it: the current contents of what the peer asked for, if it may
-    // read them.
-    ensures faithful { OfServers Faithful }
     // When a Read is done, each octet of its response was placed, and none too often.
     ensures answering { OfServers Answering }
-    // When a Send is received, the octets of the Writes before it stand where they were written; when a Read is done,
-    // those that were fetched for it stand at its sink; unless others were put there.
-    ensures holds_written { OfServers HoldsWritten }
-    ensures holds_fetched { OfServers HoldsFetched }
     // No Read goes out while as many are outstanding as both ends agreed on.
     ensures few_reads { OfServers FewReads }
-    // Each call on regions or pools is answered by them, as the entries before it leave them.
-    ensures regions { OfServers ShowsRegions }
     // Each call on a stream is refused exactly when it must be.
     ensures answered { OfServers Answered }
+{}
+
+/// The laws of single acts that speak of the regions hold by the regions as they stand, those that are limited to one stream
+/// too.
+pub fn keep_the_laws_by_regions()
+    // Every octet that a stream changed lay where it was allowed to.
+    ensures within { OfServerRegions WithinAs }
+    // A Read Response has only octets that were fetched for it: the current contents of what the peer asked for, if it may
+    // read them.
+    ensures faithful { OfServerRegions FetchAs }
+    // Each frame that came is judged, and has its turn, in order, while the stream is open and has not ended.
+    ensures turns { OfServerRegions TurnsAs }
+    // If work answers idle, no frame is left that could be judged before its turn. A frame judged so is placed at once, or
+    // left.
+    ensures early { OfServerRegions EarlyAs }
+    // A frame that was placed is not checked again at its turn, except for the order of segments.
+    ensures no_second_check { OfServerRegions SecondAs }
+    // Each placement is that of the frame that is judged then.
+    ensures placed { OfServerRegions PlacedAs }
+    // Each call on regions or pools is answered by them.
+    ensures regions { ServerShowsRegions }
+{}
+
+/// In words of schedules, which tell nothing of a region that is limited to one stream, the laws that speak of regions hold of
+/// the servers' runs in which none was registered.
+pub fn keep_the_laws_unlimited()
+    // Each frame that came is judged, and has its turn, as the regions then say.
+    ensures turns { OfUnlimited Turns }
+    // If work answers idle, no frame is left that could be judged before its turn. A frame judged so is placed at once, or
+    // left.
+    ensures early { OfUnlimited JudgesEarly }
+    // A frame that was placed is not checked again at its turn, except for the order of segments.
+    ensures no_second_check { OfUnlimited ChecksOnce }
+    // Each placement is that of another frame, and no two of these frames overlap.
+    ensures once { OfUnlimited PlacesOnce }
+    // Every octet that a stream changed lay where it was allowed to.
+    ensures within { OfUnlimited Within }
+    // A Read Response has only octets that were fetched for it: the current contents of what the peer asked for, if it may
+    // read them.
+    ensures faithful { OfUnlimited Faithful }
+    // When a Send is received, the octets of the Writes before it stand where they were written; when a Read is done,
+    // those that were fetched for it stand at its sink; unless others were put there.
+    ensures holds_written { OfUnlimited HoldsWritten }
+    ensures holds_fetched { OfUnlimited HoldsFetched }
+    // Each call on regions or pools is answered by them, as the entries before it leave them.
+    ensures regions { OfUnlimited ShowsRegions }
 {}
 
 /// A stream number is opened at most once at an end, whether the application picks it or is given it.
@@ -87,13 +117,16 @@ pub fn give_numbers_once()
     ensures { OfServerRuns GivesOnce }
 {}
 
-/// Once a stream was closed, nothing is told of its number: it is not opened, no call is made on it, and it is not closed
-/// again.
+/// Once a stream was closed, nothing is told of its number: it is not opened, no call is made on it, no region is registered
+/// for it, and it is not closed again.
 pub fn close_for_good()
     ensures { OfServerRuns ClosedIsOver }
 {}
 
-/// A close takes one stream away, and leaves the regions, the pools and all other streams as they were.
+/// A close takes one stream away, and puts the regions out of use that are limited to it. All other regions, the pools and all
+/// other streams are as they were.
 pub fn close_leaves_others()
-    ensures { CloseLeavesOthers }
+    ensures others { CloseLeavesOthers }
+    // Where no region is limited to one stream, all regions are as they were.
+    ensures regions { CloseLeavesRegions }
 {}

@@ -1,10 +1,13 @@
 //! Calls at an end that serves any number of connections.
 
-ghost use Rattle.std.specs.Prelude.{◌≡◌, true, false, unwrap_or, IfOk, IfErr};
+ghost use Rattle.std.specs.Prelude.{◌≡◌, ◌≢◌, true, false, length, unwrap_or, IfOk, IfErr};
+ghost use Rattle.std.specs.Result.{result_map_both};
+ghost use Rattle.iw_memory.specs.Table.{next_stag};
+ghost use Rattle.iw_endpoint.specs.declared.refusal.CallRefusal.{CallRefusal};
 ghost use Rattle.iw_events.specs.Servers.{server_call_of};
 ghost use Rattle.iw_events.specs.declared.server.ServerCall.{ServerCall};
 ghost use Rattle.iw_events.specs.declared.call.Call.{Call};
-ghost use Rattle.iw_endpoint.specs.Endpoint.{has_stream, stream_at, next_number, next_refusal, next_shared_refusal, rest_refusal};
+ghost use Rattle.iw_endpoint.specs.Endpoint.{has_stream, stream_at, next_number, next_refusal, next_shared_refusal, limit_refusal, rest_refusal};
 ghost use Rattle.iw_endpoint.specs.Isolation.{after, answer_or};
 ghost use Rattle.iw_endpoint.specs.Isolation as calls;
 
@@ -12,8 +15,9 @@ use crate::fault::Failure;
 use crate::host::{Host, config_for};
 use crate::wire::Wire;
 use bytes::Bytes;
-use iw_endpoint::{CallRefusal, Endpoint, NotAtRest, OpenNextRefusal};
+use iw_endpoint::{CallRefusal, Endpoint, LimitRefusal, NotAtRest, OpenNextRefusal};
 use iw_events::{Call, Options, ServerAct, ServerCall, StreamCall};
+use iw_memory::{RegisterRefusal, Rights, Stag};
 use iw_stream::{Config, Role};
 use std::alloc::Allocator;
 
@@ -53,6 +57,12 @@ impl<A: Allocator + Copy> Host<A> {
                 options,
                 private,
             } => self.open_shared_next(alloc, *pd, *role, *options, private),
+            ServerCall::RegisterFor {
+                stream,
+                base,
+                rights,
+                octets,
+            } => self.register_for(alloc, *stream, *base, *rights, octets),
             ServerCall::Close { stream } => self.close(*stream),
         }
     }
@@ -160,6 +170,33 @@ impl<A: Allocator + Copy> Host<A> {
         })
     }
 
+    fn register_for(
+        &mut self,
+        alloc: A,
+        number: u32,
+        base: u64,
+        rights: Rights,
+        octets: &Bytes<A>,
+    ) -> Result<ServerAct<Bytes<A>>, Failure>
+        ensures rule { IfOk result (λ act. ServerEndRule self.old act) }
+        ensures call { IfOk result (λ act. server_call_of act
+            ≡ Some (ServerCall.RegisterFor number base rights octets.now)) }
+        ensures state { IfOk result (λ act. self.new ≡ server_after self.old act) }
+        ensures no_stream { result ≡ Err Failure.NoSuchStream → has_stream self.old.endpoint number ≡ false }
+        ensures sent { result ≢ Err Failure.NotSent }
+    {
+        let copy = Vec::from_slice(alloc, octets.as_slice())?;
+        let shown = octets.clone()?;
+        let answer = register_for(&mut self.endpoint, number, base, copy, rights)?;
+        Ok(ServerAct::RegisterFor {
+            stream: number,
+            base,
+            rights,
+            octets: shown,
+            answer,
+        })
+    }
+
     fn close(&mut self, number: u32) -> Result<ServerAct<Bytes<A>>, Failure>
         ensures rule { IfOk result (λ act. ServerEndRule self.old act) }
         ensures call { IfOk result (λ act. server_call_of act ≡ Some (ServerCall.Close number)) }
@@ -214,6 +251,33 @@ fn open_shared_next<A: Allocator + Copy>(
         Ok(number) => Ok(Ok(number)),
         Err(OpenNextRefusal::NoMemory) => Err(Failure::NoMemory),
         Err(refusal) => Ok(Err(refusal)),
+    }
+}
+
+// Registers octets for one stream alone: returns the STag, or why not.
+fn register_for<A: Allocator>(
+    endpoint: &mut Endpoint<A>,
+    number: u32,
+    base: u64,
+    octets: Vec<u8, A>,
+    rights: Rights,
+) -> Result<Result<Stag, LimitRefusal>, Failure>
+    ensures there { IfOk result (λ answer. has_stream endpoint.old number ≡ true) }
+    ensures rule { IfOk result (λ answer. result_map_both (λ stag. stag) CallRefusal.Refused answer
+        ≡ answer_or (limit_refusal endpoint.old number base (length octets.items))
+        (next_stag endpoint.old.table (stream_at endpoint.old number).domain)) }
+    ensures state { IfOk result (λ answer. endpoint.new
+        ≡ after endpoint.old (calls.AtStream number (calls.RegisterFor base octets.items rights))) }
+    ensures no_stream { result ≡ Err Failure.NoSuchStream → has_stream endpoint.old number ≡ false }
+    ensures sent { result ≢ Err Failure.NotSent }
+{
+    match endpoint.register_for(number, base, octets, rights) {
+        Ok(stag) => Ok(Ok(stag)),
+        Err((CallRefusal::Refused(LimitRefusal::Refused(RegisterRefusal::NoMemory)), _)) => {
+            Err(Failure::NoMemory)
+        }
+        Err((CallRefusal::Refused(refusal), _)) => Ok(Err(refusal)),
+        Err((CallRefusal::NoSuchStream, _)) => Err(Failure::NoSuchStream),
     }
 }
 

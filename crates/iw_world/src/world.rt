@@ -13,7 +13,7 @@ ghost use Rattle.iw_laws.specs.AtRest.{AllArrived};
 ghost use Rattle.iw_laws.specs.Busy.{WorkComesToRest};
 ghost use Rattle.iw_laws.specs.Holds.{HoldsWritten, HoldsFetched};
 ghost use Rattle.iw_laws.specs.Early.{JudgesEarly, ChecksOnce};
-ghost use Rattle.iw_laws.specs.Once.{PlacesOnce};
+ghost use Rattle.iw_laws.specs.Once.{PlacesOnce, NonePlacedTwice};
 ghost use Rattle.iw_laws.specs.Ends.{Ends};
 ghost use Rattle.iw_laws.specs.Calls.{ShowsMemory, Answered, KeepsOctets, CarriesOctets, OpensFirst};
 ghost use Rattle.iw_laws.specs.Isolated.{Isolated};
@@ -22,7 +22,7 @@ ghost use Rattle.iw_laws.specs.Stops.{StopsAt};
 ghost use Rattle.iw_events.specs.Servers.{server_event_of};
 ghost use Rattle.iw_laws.specs.Plain.{ShowsRegions};
 ghost use Rattle.iw_laws.specs.Servers.{told, ServerRule, ServerFollows, after_server_entry};
-ghost use Rattle.iw_laws.specs.ServerLaws.{by_number, GivesOnce, ClosedIsOver};
+ghost use Rattle.iw_laws.specs.ServerLaws.{by_number, NoneLimited, GivesOnce, ClosedIsOver};
 ghost use Rattle.iw_laws.specs.ServerStops.{LacksServerStream, AsksServerTooMuch, ServerStopsAt};
 
 use crate::fault::Failure;
@@ -257,39 +257,46 @@ impl<A: Allocator + Copy> World<A> {
         ensures carried { IfOk result (λ trace. CarriesOctets (told by_number trace.items)) }
         // Octets that come are kept, unless the stream has ended or there is no room for them.
         ensures kept { IfOk result (λ trace. KeepsOctets (told by_number trace.items)) }
-        // Each frame that came is judged, and has its turn, in order, while the stream is open and has not ended.
-        ensures turns { IfOk result (λ trace. Turns (told by_number trace.items)) }
+        // No two frames that were placed overlap.
+        ensures none_twice { IfOk result (λ trace. NonePlacedTwice (told by_number trace.items)) }
         // Work answers idle only if no frame can be judged or have its turn, and no message can be handed back.
         ensures idle { IfOk result (λ trace. IdleOnlyAtRest (told by_number trace.items)) }
         // Then, if all came that the other end sent, all messages have arrived that it sent whole.
         ensures arrived { IfOk result (λ trace. AllArrived (told by_number trace.items)) }
         // Of steps of work one after another, so many at most are not idle, unless the stream ends.
         ensures rests { IfOk result (λ trace. WorkComesToRest (told by_number trace.items)) }
-        // Then no frame is left that could be judged before its turn. A frame judged so is placed at once, or left.
-        ensures early { IfOk result (λ trace. JudgesEarly (told by_number trace.items)) }
-        // A frame that was placed is not checked again at its turn, except for the order of segments.
-        ensures no_second_check { IfOk result (λ trace. ChecksOnce (told by_number trace.items)) }
-        // Each placement is that of another frame, and no two of these frames overlap.
-        ensures once { IfOk result (λ trace. PlacesOnce (told by_number trace.items)) }
         // A stream that has ended hands back what was posted, the messages first, and sends only what is still due.
         ensures ended { IfOk result (λ trace. Ends (told by_number trace.items)) }
-        // Every octet that a stream changed lay where it was allowed to.
-        ensures within { IfOk result (λ trace. Within (told by_number trace.items)) }
-        // A Read Response has only octets that were fetched for it: the current contents of what the peer asked for, if
-        // it may read them.
-        ensures faithful { IfOk result (λ trace. Faithful (told by_number trace.items)) }
         // When a Read is done, each octet of its response was placed, and none too often.
         ensures answering { IfOk result (λ trace. Answering (told by_number trace.items)) }
-        // When a Send is received, the octets of the Writes before it stand where they were written; when a Read is done,
-        // those that were fetched for it stand at its sink; unless others were put there.
-        ensures holds_written { IfOk result (λ trace. HoldsWritten (told by_number trace.items)) }
-        ensures holds_fetched { IfOk result (λ trace. HoldsFetched (told by_number trace.items)) }
         // No Read goes out while as many are outstanding as both ends agreed on.
         ensures few_reads { IfOk result (λ trace. FewReads (told by_number trace.items)) }
-        // Each call on regions or pools is answered by them, as the entries before it leave them.
-        ensures regions { IfOk result (λ trace. ShowsRegions (told by_number trace.items)) }
         // Each call on a stream is refused exactly when it must be.
         ensures answered { IfOk result (λ trace. Answered (told by_number trace.items)) }
+
+        // The laws that speak of the regions, where none was registered for one stream alone. (By the regions as they stand
+        // most hold of each run: `keep_the_laws_by_regions` of `iw_laws::servers`.)
+        // Each frame that came is judged, and has its turn, in order, while the stream is open and has not ended.
+        ensures turns { IfOk result (λ trace. NoneLimited trace.items → Turns (told by_number trace.items)) }
+        // If work answers idle, no frame is left that could be judged before its turn. A frame judged so is placed at
+        // once, or left.
+        ensures early { IfOk result (λ trace. NoneLimited trace.items → JudgesEarly (told by_number trace.items)) }
+        // A frame that was placed is not checked again at its turn, except for the order of segments.
+        ensures no_second_check { IfOk result (λ trace. NoneLimited trace.items → ChecksOnce (told by_number trace.items)) }
+        // Each placement is that of another frame, and no two of these frames overlap.
+        ensures once { IfOk result (λ trace. NoneLimited trace.items → PlacesOnce (told by_number trace.items)) }
+        // Every octet that a stream changed lay where it was allowed to.
+        ensures within { IfOk result (λ trace. NoneLimited trace.items → Within (told by_number trace.items)) }
+        // A Read Response has only octets that were fetched for it: the current contents of what the peer asked for, if
+        // it may read them.
+        ensures faithful { IfOk result (λ trace. NoneLimited trace.items → Faithful (told by_number trace.items)) }
+        // When a Send is received, the octets of the Writes before it stand where they were written; when a Read is done,
+        // those that were fetched for it stand at its sink; unless others were put there.
+        ensures holds_written { IfOk result (λ trace. NoneLimited trace.items → HoldsWritten (told by_number trace.items)) }
+        ensures holds_fetched { IfOk result (λ trace. NoneLimited trace.items → HoldsFetched (told by_number trace.items)) }
+        // Each call on regions or pools is answered by them, as the entries before it leave them.
+        ensures regions { IfOk result (λ trace. NoneLimited trace.items → ShowsRegions (told by_number trace.items)) }
+
         // A stream number is opened at most once at an end, and nothing is told of it once its stream was closed.
         ensures given { IfOk result (λ trace. GivesOnce trace.items) }
         ensures closed { IfOk result (λ trace. ClosedIsOver trace.items) }

@@ -1,10 +1,9 @@
--- Each law holds of every run, and what a server's run tells is one.
+-- Each of these laws holds of every run, and what a server's run tells is one.
 use Rattle.iw_laws.specs.Servers.{told}
 use Rattle.iw_laws.proofs.Serving.{server_run}
-use Rattle.iw_laws.proofs.Laws.{in_order, covered, emission, sized_all, speaks_all, nothing_at_rest, finished_all, opens_first, carries_octets, keeps_octets, turns_all, idle_at_rest, early_all, second_all, once_all, ends_all, within_all, fetched_all, answering_all, few_reads, shows_regions, answered_all}
+use Rattle.iw_laws.proofs.Laws.{in_order, covered, emission, sized_all, speaks_all, nothing_at_rest, finished_all, opens_first, carries_octets, keeps_octets, spans_once, idle_at_rest, ends_all, answering_all, few_reads, answered_all}
 use Rattle.iw_laws.proofs.AtRest.{all_arrived}
 use Rattle.iw_laws.proofs.Rested.{work_rests}
-use Rattle.iw_laws.proofs.Holding.{holds_written, holds_fetched}
 use Rattle.iw_laws.proofs.servers.keep_the_laws.Goals as goal
 
 pub returns-clause-in_order : goal.returns-clause-in_order
@@ -37,8 +36,8 @@ returns-clause-carried c = λ name trace apart follows. carries_octets (told nam
 pub returns-clause-kept : goal.returns-clause-kept
 returns-clause-kept c = λ name trace apart follows. keeps_octets (told name trace) (server_run name trace apart follows)
 
-pub returns-clause-turns : goal.returns-clause-turns
-returns-clause-turns c = λ name trace apart follows. turns_all (told name trace) (server_run name trace apart follows)
+pub returns-clause-none_twice : goal.returns-clause-none_twice
+returns-clause-none_twice c = λ name trace apart follows. spans_once (told name trace) (server_run name trace apart follows)
 
 pub returns-clause-idle : goal.returns-clause-idle
 returns-clause-idle c = λ name trace apart follows. idle_at_rest (told name trace) (server_run name trace apart follows)
@@ -49,38 +48,14 @@ returns-clause-arrived c = λ name trace apart follows. all_arrived (told name t
 pub returns-clause-rests : goal.returns-clause-rests
 returns-clause-rests c = λ name trace apart follows. work_rests (told name trace) (server_run name trace apart follows)
 
-pub returns-clause-early : goal.returns-clause-early
-returns-clause-early c = λ name trace apart follows. early_all (told name trace) (server_run name trace apart follows)
-
-pub returns-clause-no_second_check : goal.returns-clause-no_second_check
-returns-clause-no_second_check c = λ name trace apart follows. second_all (told name trace) (server_run name trace apart follows)
-
-pub returns-clause-once : goal.returns-clause-once
-returns-clause-once c = λ name trace apart follows. once_all (told name trace) (server_run name trace apart follows)
-
 pub returns-clause-ended : goal.returns-clause-ended
 returns-clause-ended c = λ name trace apart follows. ends_all (told name trace) (server_run name trace apart follows)
-
-pub returns-clause-within : goal.returns-clause-within
-returns-clause-within c = λ name trace apart follows. within_all (told name trace) (server_run name trace apart follows)
-
-pub returns-clause-faithful : goal.returns-clause-faithful
-returns-clause-faithful c = λ name trace apart follows. fetched_all (told name trace) (server_run name trace apart follows)
 
 pub returns-clause-answering : goal.returns-clause-answering
 returns-clause-answering c = λ name trace apart follows. answering_all (told name trace) (server_run name trace apart follows)
 
-pub returns-clause-holds_written : goal.returns-clause-holds_written
-returns-clause-holds_written c = λ name trace apart follows. holds_written (told name trace) (server_run name trace apart follows)
-
-pub returns-clause-holds_fetched : goal.returns-clause-holds_fetched
-returns-clause-holds_fetched c = λ name trace apart follows. holds_fetched (told name trace) (server_run name trace apart follows)
-
 pub returns-clause-few_reads : goal.returns-clause-few_reads
 returns-clause-few_reads c = λ name trace apart follows. few_reads (told name trace) (server_run name trace apart follows)
-
-pub returns-clause-regions : goal.returns-clause-regions
-returns-clause-regions c = λ name trace apart follows. shows_regions (told name trace) (server_run name trace apart follows)
 
 pub returns-clause-answered : goal.returns-clause-answered
 returns-clause-answered c = λ name trace apart follows. answered_all (told name trace) (server_run name trace apart follows)
