@@ -1,10 +1,11 @@
 //! Runs of two ends that serve any number of connections.
 use bytes::Bytes;
 use iw_events::{
-    Call, End, Establishment, Options, Request, Role, Seen, ServerAct, ServerCall, ServerEntry,
-    ServerEvent, StreamAct, StreamCall,
+    Act, Call, End, Establishment, Options, Request, Role, Seen, ServerAct, ServerCall,
+    ServerEntry, ServerEvent, StreamAct, StreamCall,
 };
-use iw_octets::Message;
+use iw_memory::Rights;
+use iw_octets::{Message, Stag};
 use iw_world::{World, WorldFault};
 use std::alloc::Global;
 use std::fmt::Write;
@@ -15,6 +16,9 @@ const CONNECTIONS: u32 = 100;
 
 // A frame of a Send of one octet, with neither markers nor a CRC.
 const FRAME: u64 = 28;
+
+// A frame of a Write of two octets, likewise.
+const WRITE_FRAME: u64 = 24;
 
 // More events than any of these runs has.
 const MOST_EVENTS: usize = 10_000;
@@ -75,6 +79,54 @@ fn exchange(alloc: Global, stream: u32, events: &mut Vec<ServerEvent<Bytes>>) ->
     Ok(())
 }
 
+// The first region of the domain.
+fn region() -> Stag {
+    Stag::new(1, 0, 0)
+}
+
+// `b` registers a region that peers may write, for a stream alone.
+fn limiting(alloc: Global, stream: u32) -> Result<ServerEvent<Bytes>, Fail> {
+    Ok(event(
+        End::B,
+        ServerCall::RegisterFor {
+            stream,
+            base: 0,
+            rights: Rights {
+                write: true,
+                read: false,
+                sink: false,
+                invalidate: false,
+            },
+            octets: Bytes::copy_from_slice(alloc, b"....")?,
+        },
+    ))
+}
+
+// A Write into that region goes from `a` to `b` on a stream.
+fn write_there(
+    alloc: Global,
+    stream: u32,
+    events: &mut Vec<ServerEvent<Bytes>>,
+) -> Result<(), Fail> {
+    let message = Request::Message(Message::Write {
+        stag: region(),
+        to: 0,
+        octets: Bytes::copy_from_slice(alloc, b"hi")?,
+    });
+    events.push(on(End::A, stream, StreamCall::Post { message }))?;
+    events.push(on(End::A, stream, StreamCall::Emit))?;
+    events.push(on(
+        End::B,
+        stream,
+        StreamCall::Deliver {
+            from: 0,
+            len: WRITE_FRAME,
+        },
+    ))?;
+    events.push(on(End::B, stream, StreamCall::Work))?;
+    Ok(())
+}
+
 // The link of a stream breaks at an end, which hands back what was posted and closes the stream.
 fn ending(end: End, stream: u32, events: &mut Vec<ServerEvent<Bytes>>) -> Result<(), Fail> {
     events.push(on(end, stream, StreamCall::Break))?;
@@ -108,6 +160,41 @@ fn told(alloc: Global, trace: &[ServerEntry<Bytes>]) -> Result<String, Fail> {
                 refused: None,
             } => writeln!(text, "close {stream}")?,
             ServerAct::Close { stream, .. } => writeln!(text, "open still {stream}")?,
+            _ => {}
+        }
+    }
+    Ok(text)
+}
+
+// What is told of regions.
+fn regions_told(alloc: Global, trace: &[ServerEntry<Bytes>]) -> Result<String, Fail> {
+    let mut text = String::new(alloc);
+    for entry in trace {
+        match &entry.act {
+            ServerAct::RegisterFor {
+                stream,
+                answer: Ok(stag),
+                ..
+            } => writeln!(text, "{stag:?} for {stream}")?,
+            ServerAct::RegisterFor {
+                stream,
+                answer: Err(refusal),
+                ..
+            } => writeln!(text, "none for {stream}: {refusal}")?,
+            ServerAct::Stream {
+                stream,
+                act: StreamAct::Work(Seen::Placed { stag, .. }),
+            } => writeln!(text, "{stag:?} written by {stream}")?,
+            ServerAct::Stream {
+                stream,
+                act: StreamAct::Work(Seen::Fault(fault)),
+            } => writeln!(text, "{fault} of {stream}")?,
+            ServerAct::Plain(
+                Act::Deregister {
+                    answer: Ok(octets),
+                    ..
+                },
+            ) => writeln!(text, "octets {:?}", octets.as_slice())?,
             _ => {}
         }
     }
@@ -178,6 +265,44 @@ fn a_closed_stream_has_nothing_to_do(rt: HostRuntime) -> Result<(), Fail> {
     assert_eq!(rt;
         World::serve(alloc, &events).err(),
         Some(WorldFault::NoSuchStream(7))
+    );
+    Ok(())
+}
+
+const LIMITED: &str = "Stag(01000000) for 64
+Stag(01000000) written by 64
+fault of layer 1, type 1, code 2 of 65
+none for 65: the stream has ended
+octets [104, 105, 46, 46]
+";
+
+// A region is for one stream alone: that of another stream is told that its STag is of another domain (RFC 5041 7.2). It stays
+// its owner's once the stream is closed.
+#[test]
+fn a_region_is_for_one_stream(rt: HostRuntime) -> Result<(), Fail> {
+    let alloc = rt.alloc();
+    let mut events = domains(alloc)?;
+    for _i in 0..2u32 {
+        events.push(opening(End::A))?;
+        events.push(opening(End::B))?;
+    }
+    events.push(limiting(alloc, 64)?)?;
+    write_there(alloc, 64, &mut events)?;
+    write_there(alloc, 65, &mut events)?;
+    events.push(limiting(alloc, 65)?)?;
+    ending(End::B, 64, &mut events)?;
+    events.push(event(
+        End::B,
+        ServerCall::Plain(Call::Deregister { stag: region() }),
+    ))?;
+    assert!(rt; events.len() <= MOST_EVENTS);
+    let trace = World::serve(alloc, &events)?;
+    assert_eq!(rt; regions_told(alloc, &trace)?.as_str(), LIMITED);
+    events.push(limiting(alloc, 64)?)?;
+    assert!(rt; events.len() <= MOST_EVENTS);
+    assert_eq!(rt;
+        World::serve(alloc, &events).err(),
+        Some(WorldFault::NoSuchStream(21))
     );
     Ok(())
 }
