@@ -212,13 +212,14 @@ fn posted(rt: HostRuntime) -> Result<(), Fail> {
     by_numbers.post_write(alloc, STREAM, stag_of(9), 100, b"there", 3)?;
     let read = iw_handle::read_request(0x01000000, 4096, 5, 9, 100);
     by_numbers.post_read(alloc, STREAM, read, 4)?;
+    let mut first = [0u8; 28];
+    assert_eq!(rt; frame(&mut by_struct, alloc, &mut first)?, 28);
+    assert_eq!(rt;
+        first,
+        *b"\x00\x14\x41\x43\0\0\0\0\0\0\0\0\0\0\0\x01\0\0\0\0hi\0\0\0\0\0\0"
+    );
     let mut one = [0u8; 64];
     let mut two = [0u8; 64];
-    assert_eq!(rt; frame(&mut by_struct, alloc, &mut one)?, 28);
-    assert_eq!(rt;
-        &one[..28],
-        b"\x00\x14\x41\x43\0\0\0\0\0\0\0\0\0\0\0\x01\0\0\0\0hi\0\0\0\0\0\0".as_slice()
-    );
     frame(&mut by_numbers, alloc, &mut two)?;
     for _ in 0..3 {
         let n = frame(&mut by_struct, alloc, &mut one)?;
@@ -251,11 +252,11 @@ fn posted_from_a_buffer(rt: HostRuntime) -> Result<(), Fail> {
         Err(Refusal::BadBits)
     );
     handle.post_buffer(alloc, STREAM, &posting(SEND, 1), &mut buffer)?;
-    let mut out = [0u8; 64];
+    let mut out = [0u8; 28];
     assert_eq!(rt; frame(&mut handle, alloc, &mut out)?, 28);
     assert_eq!(rt;
-        &out[..28],
-        b"\x00\x14\x41\x45\0\0\0\0\0\0\0\0\0\0\0\x01\0\0\0\0\0\0\0\0\0\0\0\0".as_slice()
+        out,
+        *b"\x00\x14\x41\x45\0\0\0\0\0\0\0\0\0\0\0\x01\0\0\0\0\0\0\0\0\0\0\0\0"
     );
     let mut event = NO_EVENT;
     handle.work(alloc, STREAM, &mut event)?;
