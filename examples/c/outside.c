@@ -48,7 +48,7 @@ int main(void) {
     struct iwarp_event event;
     uint8_t message[16];
     size_t n = 0;
-    if (iwarp_version() != IWARP_VERSION) return 1;
+    if (iwarp_version() < IWARP_VERSION) return 1; /* it may lack what this header has */
     begin(&a);
     begin(&b);
     must(iwarp_post_recv(&b, STREAM, sizeof message), "post_recv");

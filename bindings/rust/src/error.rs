@@ -224,7 +224,13 @@ mod tests {
         for (name, code) in codes.take_while(|(name, _)| *name != "IWARP_WRITE") {
             let error = ALL.iter().find(|error| i64::from(error.code()) == *code);
             // What these tell, the types of this crate rule out.
-            let ruled_out = ["IWARP_IS_CLOSED", "IWARP_ALREADY_OPEN", "IWARP_BUFFER_MISSING", "IWARP_BUFFER_EXISTS"];
+            let ruled_out = [
+                "IWARP_IS_CLOSED",
+                "IWARP_ALREADY_OPEN",
+                "IWARP_BUFFER_MISSING",
+                "IWARP_BUFFER_EXISTS",
+                "IWARP_BAD_STRUCT",
+            ];
             assert_eq!(error.is_none(), ruled_out.contains(name), "{name}");
         }
     }
