@@ -189,7 +189,7 @@ pub extern "C" fn iwarp_fill(
     ensures room { result ≡ pos 3 →
         TakesMemoryForReadsAt (called_on handle.old.state number) number buffer.old.state buffer.old.room }
     ensures ok { result ≡ pos 0 → IfSome (called_on handle.old.state number) (λ held. IfSome buffer.old.state
-        (λ octets. FillsAt held number most octets handle.new.state buffer.new.state filling.new)) }
+        (λ octets. FillsAt held number most octets buffer.new.room handle.new.state buffer.new.state filling.new)) }
     ensures untold { result ≢ pos 0 → filling.new ≡ filling.old }
     ensures err { result ≢ pos 0 → handle.new.state ≡ called_on handle.old.state number }
     ensures back { result ≢ pos 0 → buffer.new.state ≡ buffer.old.state }

@@ -19,19 +19,19 @@ stop_reason stops.NoSuchStream = refusals.NoSuchStream
 stop_reason stops.NoMemory = refusals.NoMemory
 stop_reason stops.TooFar = refusals.TooFar
 
--- frames were put behind octets, up to where `fill` of a connection stops, and this is told of them
-pub record FillsBy (old : EndpointState) (number most : ℕ) (before after : List ℕ) (new : EndpointState) (filling : Filling) : Type 0 where
+-- frames were put behind octets, up to where `fill` of a connection stops, where there is room for so many then, and this is told of
+-- them
+pub record FillsBy (old : EndpointState) (number most : ℕ) (before after : List ℕ) (capacity : ℕ) (new : EndpointState) (filling : Filling) : Type 0 where
   pub frames : ℕ
   pub filled : Filled
-  pub capacity : ℕ
   pub fills : FillsTo old number most before after capacity new frames filled
   pub told : filling ≡ filling_of filled frames (length after - length before)
 
--- the same at a handle and a buffer
-pub record FillsAt (held : Held) (number most : ℕ) (before : List ℕ) (handle : State) (buffer : Option (List ℕ)) (filling : Filling) : Type 0 where
+-- the same at a handle and a buffer, which has so much room then
+pub record FillsAt (held : Held) (number most : ℕ) (before : List ℕ) (room : ℕ) (handle : State) (buffer : Option (List ℕ)) (filling : Filling) : Type 0 where
   pub after : List ℕ
   pub new : EndpointState
-  pub fills : FillsBy held.endpoint number most before after new filling
+  pub fills : FillsBy held.endpoint number most before after room new filling
   pub handle_is : handle ≡ Some (with_endpoint held new)
   pub buffer_is : buffer ≡ Some after
 

@@ -33,7 +33,7 @@ fn fill(
     ensures refused { IfSome (refusal_to_go_on endpoint.old number) (λ r. result ≡ Err r) }
     ensures memory { IfNone (refusal_to_go_on endpoint.old number) (IfErr result (λ e. e ≡ Refusal.NoMemory)) }
     ensures room { result ≡ Err Refusal.NoMemory → TakesMemoryForReads endpoint.old number (vec_len out.old) (vec_capacity out.old) }
-    ensures ok { IfOk result (λ filling. FillsBy endpoint.old number most out.old.items out.new.items endpoint.new filling) }
+    ensures ok { IfOk result (λ filling. FillsBy endpoint.old number most out.old.items out.new.items (vec_capacity out.new) endpoint.new filling) }
     ensures err { OnErr result (endpoint.new ≡ endpoint.old) }
     ensures back { OnErr result (out.new.items ≡ out.old.items) }
 {
@@ -64,7 +64,7 @@ impl Handle {
         ensures room { result ≡ Err Refusal.NoMemory →
             TakesMemoryForReadsAt (called_on self.old.state number) number buffer.old.state buffer.old.room }
         ensures ok { IfOk result (λ filling. IfSome (called_on self.old.state number) (λ held. IfSome buffer.old.state
-            (λ octets. FillsAt held number most octets self.new.state buffer.new.state filling))) }
+            (λ octets. FillsAt held number most octets buffer.new.room self.new.state buffer.new.state filling))) }
         ensures err { OnErr result (self.new.state ≡ called_on self.old.state number) }
         ensures back { OnErr result (buffer.new.state ≡ buffer.old.state) }
     {
