@@ -15,7 +15,7 @@ pub fn crc32c(octets: &[u8]) -> u32 {
 }
 
 /// Compares what a function gives with the CRC-32C: of 0 to 2,000 octets, and of longer runs, with both sides of each length at
-/// which `iw_octets` goes another way.
+/// which `iw_crc` goes another way.
 pub fn must_agree(name: &str, contender: impl Fn(&[u8]) -> u32) {
     let octets: Vec<u8> = (0..70_016u32).map(|i| (i.wrapping_mul(2_654_435_761) >> 13) as u8).collect();
     for len in (0..=2_000).chain([2_337, 2_338, 2_339, 4_385, 4_386, 4_387, 9_000, 65_536, 70_000]) {

@@ -1,4 +1,4 @@
-//! Times the CRC-32C of iw_octets beside the usual ways in plain Rust: a table, slicing-by-8, and the processor's own instruction.
+//! Times the CRC-32C of iw_crc beside the usual ways in plain Rust: a table, slicing-by-8, and the processor's own instruction.
 #[path = "../bit_by_bit.rs"]
 mod bit_by_bit;
 
@@ -107,13 +107,13 @@ fn with_instruction(octets: &[u8]) -> u32 {
 }
 
 fn main() {
-    bit_by_bit::must_agree("iw_octets", ours);
+    bit_by_bit::must_agree("iw_crc", ours);
     let has_instruction = std::is_x86_feature_detected!("sse4.2");
     let mut contenders: Vec<fn(&[u8]) -> u32> = vec![slicing_by_8, table, ours];
     if has_instruction {
         contenders.push(with_instruction);
     }
-    println!("octets   slicing-by-8   table   iw_octets   instruction   (speed, slicing-by-8 = 1)");
+    println!("octets   slicing-by-8   table      iw_crc   instruction   (speed, slicing-by-8 = 1)");
     for len in [64, 256, 508, 1_456, 4_096, 9_000, 65_536] {
         let times = least_times(&some_octets(len), &contenders, 5_000);
         let speed = |k: usize| times.get(k).map_or("-".into(), |time| format!("{:.2}", times[0] / time));

@@ -302,7 +302,7 @@ fn crc_to_peer(turns: usize, len: usize) -> f64 {
     ours / peer
 }
 
-/// How fast the peer's CRC is beside that of `iw_octets`. The rows with CRCs have mostly frames of 1,400 octets.
+/// How fast the peer's CRC is beside that of `iw_crc`. The rows with CRCs have mostly frames of 1,400 octets.
 fn judge_crc(turns: usize, wanted: &mut Wanted) {
     for len in [128, 508, 8_900, 64_512] {
         println!("CRC of {len} octets, our time to the peer's: {:.2}", crc_to_peer(turns, len));

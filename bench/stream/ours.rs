@@ -1,4 +1,4 @@
-//! What `crates/bench_stream` offers: loads carried by `iw_stream`, and the CRC of `iw_octets`.
+//! What `crates/bench_stream` offers: loads carried by `iw_stream`, and the CRC of `iw_crc`.
 
 use crate::load::Load;
 

@@ -1,4 +1,4 @@
-//! The CRC-32C as `iw_octets` takes it, written anew. Words go by tables, in four lanes. Of 112 octets or more, all but the last
+//! The CRC-32C as `iw_crc` takes it, written anew. Words go by tables, in four lanes. Of 112 octets or more, all but the last
 //! 96 are folded away before, sixteen at a time, by look-ups of half octets; of 800 or more, all but the last 290 before that.
 //! The processor's own instruction for CRCs is not used.
 //!

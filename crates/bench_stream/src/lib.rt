@@ -34,5 +34,5 @@ pub extern "C" fn stream_window(alloc: Global, load: &Load, octets: &[u8]) -> u6
 /// The CRC-32C of the octets.
 #[unsafe(no_mangle)]
 pub extern "C" fn stream_crc(octets: &[u8]) -> u32 {
-    iw_octets::crc32c(octets)
+    iw_crc::crc32c(octets)
 }

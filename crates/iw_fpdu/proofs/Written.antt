@@ -5,7 +5,7 @@ use Rattle.std.proofs.lemmas.List.FromFn.{length-map-range_with_len}
 use Rattle.std.proofs.lemmas.Bool.{cases_lt, cases_eq}
 use Rattle.std.proofs.lemmas.Bool.Decides.{nat_tests}
 use Rattle.std.specs.Int.{w32, to_le_bytes}
-use Rattle.iw_octets.specs.Crc.{crc32c}
+use Rattle.iw_crc.specs.Crc.{crc32c}
 use Rattle.iw_fpdu.specs.declared.layout.Layout.{Layout}
 use Rattle.iw_fpdu.specs.Places.{data_place, data_index, in_marker, place_after, frame_start, span_start}
 use Rattle.iw_fpdu.specs.Frame.{marker_value, octet_at, laid, pad_len, frame_size, frame_end, field_place, bare_data, bare_frame, covered, crc_field, frame_data, frame_octet, frame_octets}

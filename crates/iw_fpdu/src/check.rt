@@ -8,7 +8,7 @@ ghost use Rattle.iw_fpdu.specs.Reading.{crc_agrees, markers_agree, mismatch_at};
 
 use crate::fpdu::Mismatch;
 use crate::layout::{Layout, SPACING, span_of};
-use iw_octets::crc32c;
+use iw_crc::crc32c;
 
 /// The number in a CRC field, low octet first.
 fn number_in(field: &[u8]) -> u32

@@ -2,7 +2,7 @@ ghost use Rattle.std.specs.Int.{w32, to_le_bytes};
 ghost use Rattle.std.specs.Prelude.{◌≡◌, ◌<◌, ◌≤◌, ◌+◌, ◌-◌, ◌/◌, ◌%◌, ◌^◌, ◌++◌, [], ◌∷◌, true};
 ghost use Rattle.std.specs.Prelude.{if◌then◌else◌, nat_lt, length, take, replicate, vec_len, vec_capacity};
 ghost use Rattle.std.specs.Prelude.{MatchOption, OnOk, OnErr, IfErr, IsOk};
-ghost use Rattle.iw_octets.specs.Crc.{after_octets, all_ones, crc32c};
+ghost use Rattle.iw_crc.specs.Crc.{after_octets, all_ones, crc32c};
 ghost use Rattle.iw_octets.specs.Pieces.{joined};
 ghost use Rattle.iw_fpdu.specs.Frame.{max_sent, bare_data, bare_frame, frame_end, frame_octets, frame_size, field_place, laid};
 ghost use Rattle.iw_fpdu.specs.Laying.{HasRoom, laid_from, marker_beyond};
@@ -10,7 +10,8 @@ ghost use Rattle.iw_fpdu.specs.Places.{data_index, frame_start, place_after};
 
 use crate::layout::{Layout, MARKER, SPACING, end_of, pad_of};
 use crate::writer::{Writer, append, append_end, append_pad};
-use iw_octets::{Crc, MAX_ULPDU, UNTAGGED_HEADER};
+use iw_crc::Crc;
+use iw_octets::{MAX_ULPDU, UNTAGGED_HEADER};
 use std::alloc::{AllocError, Allocator};
 use thiserror::Error;
 

@@ -2,12 +2,6 @@ pub mod Spelled
 pub mod Segments
 pub mod Runs
 pub mod Front
-pub mod Linear
-pub mod TableRules
-pub mod Words
-pub mod Folds
-pub mod FoldSteps
-pub mod Sixteens
 pub mod Stags
 pub mod Again
 pub mod PartLemmas

@@ -1,5 +1,5 @@
 -- Reading undoes writing, whatever stands after, and writing undoes reading; what is read is read off the octets at the front.
-use Rattle.std.specs.Prelude.{ℕ, ◌≡◌, ◌<◌, ◌+◌, ◌-◌, ◌*◌, ◌/◌, ◌%◌, true, false, List, [], ◌∷◌, ◌++◌, slice_index, Some, None, codes, replicate, if◌then◌else◌}
+use Rattle.std.specs.Prelude.{ℕ, ◌≡◌, ◌<◌, ◌+◌, ◌-◌, ◌*◌, ◌/◌, ◌%◌, true, false, List, [], ◌∷◌, ◌++◌, slice_index, Some, None, if◌then◌else◌}
 use Rattle.iw_octets.specs.declared.constants.TheConstants as constants
 use Rattle.iw_octets.specs.declared.fault.Fault.{Fault}
 use Rattle.iw_octets.specs.declared.fault.TheConstants.Fault as faults
@@ -12,7 +12,6 @@ use Rattle.iw_octets.specs.declared.payload.TerminateWord.{TerminateWord}
 use Rattle.iw_octets.specs.declared.segment.Segment.{Segment}
 use Rattle.iw_octets.specs.declared.stag.Stag.{Stag}
 use Rattle.iw_octets.specs.Stag.{number_of, FitsStag}
-use Rattle.iw_octets.specs.Crc.{after_octets, crc32c}
 use Rattle.iw_octets.specs.Head.{is_tagged, tagged_octets, untagged_octets, read_tagged, read_untagged, FitsTagged, FitsUntagged}
 use Rattle.iw_octets.specs.Operation.{rdmap_version, opcode_of, control_of, tagged_opcode, untagged_opcode, tagged_operation, untagged_operation}
 use Rattle.iw_octets.specs.Parts.{part_at, parts_from}
@@ -106,19 +105,3 @@ PartsAreTaken = (len size offset : ℕ) → 0 < size →
 -- two STags of one number are one
 pub record NumbersTell : Type 0 where
   pub same : (a b : Stag) → FitsStag a → FitsStag b → number_of a ≡ number_of b → a ≡ b
-
--- octets in two pieces
-pub record AddsInPieces : Type 0 where
-  pub pieces : (remainder : ℕ) (octets more : List ℕ) → after_octets remainder (octets ++ more) ≡ after_octets (after_octets remainder octets) more
-
--- the segment that RFC 5044 prints in two frames (figures 5 and 6), up to its message sequence number
-abbrev pub printed_send : List ℕ
-printed_send = 0 ∷ 0x2a ∷ 0x41 ∷ 0x43 ∷ replicate 11 0
-
--- values that the definition of the CRC computes to: the two printed frames, and runs of octets
-pub record KnownValues : Type 0 where
-  pub first_frame : crc32c (replicate 4 0 ++ printed_send ++ 1 ∷ replicate 28 0) ≡ 0x8399_2352
-  pub second_frame : crc32c (printed_send ++ 2 ∷ replicate 4 0 ++ 0 ∷ 0 ∷ 0 ∷ 0x14 ∷ replicate 24 0) ≡ 0x9858_9284
-  pub digits : crc32c (codes "123456789") ≡ 0xe306_9283
-  pub zeros : crc32c (replicate 32 0) ≡ 0x8a91_36aa
-  pub ones : crc32c (replicate 32 0xff) ≡ 0x62a8_ab43

@@ -9,7 +9,3 @@ pub mod Operation
 pub mod Parts
 pub mod Laws
 pub mod Pieces
-pub mod Crc
-pub mod CrcWords
-pub mod Fold
-pub mod Lanes

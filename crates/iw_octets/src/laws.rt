@@ -1,6 +1,5 @@
-ghost use Rattle.iw_octets.specs.Laws.{KnownConstants, KnownFaults, KnownValues};
-ghost use Rattle.iw_octets.specs.Laws.{NumbersTell, OperationsAreTold, ReadsAgain, WritesAgain};
-ghost use Rattle.iw_octets.specs.Laws.{AddsInPieces, PartsAreTaken};
+ghost use Rattle.iw_octets.specs.Laws.{KnownConstants, KnownFaults, NumbersTell, OperationsAreTold};
+ghost use Rattle.iw_octets.specs.Laws.{PartsAreTaken, ReadsAgain, WritesAgain};
 
 /// What is written is read again, whatever comes after it; more octets after a segment are more of its payload.
 pub fn reads_again()
@@ -30,16 +29,6 @@ pub fn operations_are_told()
 /// Parts taken one by one, each from the end of the one before, are the parts that the message is cut into.
 pub fn parts_are_taken()
     ensures { PartsAreTaken }
-{}
-
-/// The CRC of octets is the same in whatever pieces they are added.
-pub fn adds_in_pieces()
-    ensures { AddsInPieces }
-{}
-
-/// The definition of the CRC gives the known values (RFC 3720 B.4, and the frames that RFC 5044 prints).
-pub fn known_values()
-    ensures { KnownValues }
 {}
 
 /// STags are told apart by their numbers.

@@ -1,4 +1,4 @@
-//! The shared vocabulary of the endpoint: octets, STags, messages, headers, operations, faults and the CRC.
+//! The shared vocabulary of the endpoint: octets, STags, messages, headers, operations and faults.
 //!
 //! A ULPDU is read by [`Segment::read`], which tells a [`TaggedHead`] from an [`UntaggedHead`] (RFC 5041 4.2, 4.3);
 //! what RDMAP carries in it is told by [`TaggedOperation`] and [`UntaggedOperation`] (RFC 5040 4). Each header has a
@@ -10,11 +10,8 @@
 #![tactic(auto)]
 
 mod constants;
-mod crc;
 mod fault;
-mod fold;
 mod head;
-mod lanes;
 mod laws;
 mod message;
 mod octets;
@@ -24,18 +21,16 @@ mod payload;
 mod pieces;
 mod segment;
 mod stag;
-mod tables;
 
 pub use constants::{
     DDP_VERSION, MAX_OCTETS, MAX_PLACE, MAX_PRIVATE, MAX_ULPDU, MAX_UNANSWERED, RDMAP_VERSION,
     READ_REQUEST_HEADER, TAGGED_HEADER, UNTAGGED_HEADER,
 };
-pub use crc::{Crc, crc32c};
 pub use fault::Fault;
 pub use head::{Short, TaggedHead, UntaggedHead, is_tagged};
 pub use laws::{
-    adds_in_pieces, known_constants, known_faults, known_values, numbers_tell, operations_are_told,
-    parts_are_taken, reads_again, writes_again,
+    known_constants, known_faults, numbers_tell, operations_are_told, parts_are_taken, reads_again,
+    writes_again,
 };
 pub use message::Message;
 pub use octets::Octets;

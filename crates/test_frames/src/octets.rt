@@ -1,7 +1,6 @@
 //! Test vectors of other programs, and an example of each header and payload.
-use iw_octets::{
-    ReadRequest, Segment, Short, Stag, TaggedHead, TerminateWord, UntaggedHead, crc32c,
-};
+use iw_crc::crc32c;
+use iw_octets::{ReadRequest, Segment, Short, Stag, TaggedHead, TerminateWord, UntaggedHead};
 
 #[test]
 fn crc_of_runs(rt: HostRuntime) {

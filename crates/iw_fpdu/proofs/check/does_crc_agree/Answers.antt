@@ -2,7 +2,7 @@ use Rattle.std.proofs.Common.{◌≡◌, ◌+◌, ◌-◌, ◌≤◌, ℕ, List,
 use Rattle.std.proofs.lemmas.List.{take_at, append-nil, get_or-drop}
 use Rattle.std.specs.Int.{w32, to_le_bytes}
 use Rattle.std.specs.Str.{bytes_eq}
-use Rattle.iw_octets.specs.Crc.{crc32c}
+use Rattle.iw_crc.specs.Crc.{crc32c}
 use Rattle.iw_fpdu.specs.Places.{span_start, data_index}
 use Rattle.iw_fpdu.specs.Frame.{field_place, pad_len}
 use Rattle.iw_fpdu.specs.PiecesOctet.{octet_from}

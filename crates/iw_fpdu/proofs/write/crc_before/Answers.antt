@@ -1,5 +1,5 @@
 use Rattle.std.proofs.Common.{◌≡◌, ◌⊎◌, ◌≢◌, ◌%◌, ap, sym, ◌∙◌, inl, inr, false}
-use Rattle.iw_octets.specs.Crc.{after_octets, all_ones}
+use Rattle.iw_crc.specs.Crc.{after_octets, all_ones}
 use Rattle.iw_fpdu.proofs.Laid.{none_beyond}
 use Rattle.iw_fpdu.proofs.write.crc_before.Goals as goal
 use Rattle.iw_fpdu.proofs.write.crc_before.Goals.{else-markers-via-then-markers+else-at-eq-MARKER, else-markers-via-else-markers}

@@ -1,7 +1,7 @@
 use Rattle.std.proofs.Common.{◌≡◌, ◌++◌, sym, ap, ◌∙◌, bit_xor}
 use Rattle.std.specs.Int.{w32, to_le_bytes}
-use Rattle.iw_octets.specs.Crc.{after_octets, all_ones, crc32c}
-use Rattle.iw_octets.proofs.Linear.{after_octets-append}
+use Rattle.iw_crc.specs.Crc.{after_octets, all_ones, crc32c}
+use Rattle.iw_crc.proofs.Linear.{after_octets-append}
 use Rattle.iw_fpdu.specs.Laying.{marker_beyond}
 use Rattle.iw_fpdu.proofs.write.crc_octets.Goals as goal
 

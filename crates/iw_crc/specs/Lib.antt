@@ -1,0 +1,5 @@
+pub mod Crc
+pub mod CrcWords
+pub mod Fold
+pub mod Lanes
+pub mod Laws

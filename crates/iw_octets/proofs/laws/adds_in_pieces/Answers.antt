@@ -1,5 +1,0 @@
-use Rattle.iw_octets.proofs.Linear.{after_octets-append}
-use Rattle.iw_octets.proofs.laws.adds_in_pieces.Goals as goal
-
-pub returns : goal.returns
-returns c = record { pieces = after_octets-append }
