@@ -4,11 +4,12 @@ use thiserror::Error;
 #[derive(Clone, Copy, Debug, PartialEq, Eq, Error)]
 pub enum BufferRefusal {
     /// The buffer was never made, or was freed.
-    #[error("there is no buffer")]
+    #[error("the buffer was not made, or was freed")]
     NoBuffer,
-    /// The buffer was made before, and not freed.
-    #[error("the buffer was made before")]
+    /// The buffer was made before, and not freed: free it first.
+    #[error("the buffer was made before, and not freed: free it first")]
     AlreadyMade,
-    #[error("no memory")]
+    /// Out of memory: the call may be made again.
+    #[error("no memory: the call may be made again")]
     NoMemory,
 }

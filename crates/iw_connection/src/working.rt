@@ -12,14 +12,14 @@ use thiserror::Error;
 /// Why nothing more is done or emitted.
 #[derive(Clone, Copy, Debug, PartialEq, Eq, Error)]
 pub enum Refusal {
-    /// No stream was opened under this number.
-    #[error("no stream was opened under this number")]
+    /// No stream was opened under this number, or it was closed.
+    #[error("no stream was opened under this number, or it was closed")]
     NoSuchStream,
     /// Out of memory: the call may be made again.
-    #[error("no memory")]
+    #[error("no memory: the call may be made again")]
     NoMemory,
-    /// More than 2^62 octets came, or were emitted.
-    #[error("more than 2^62 octets")]
+    /// The stream has taken in, or emitted, more than 2^62 octets: end the connection.
+    #[error("the stream has taken in, or emitted, more than 2^62 octets")]
     TooFar,
 }
 

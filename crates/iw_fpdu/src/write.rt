@@ -21,11 +21,11 @@ const MAX_HEADER: usize = UNTAGGED_HEADER;
 /// Why a frame is not written.
 #[derive(Clone, Copy, Debug, PartialEq, Eq, Error)]
 pub enum WriteRefusal {
-    /// The ULPDU has more than 64,512 octets.
-    #[error("the ULPDU is too long")]
+    /// The ULPDU has more than 64,512 octets: cut the message into more parts.
+    #[error("a ULPDU has at most 64,512 octets: cut the message into more parts")]
     TooLong,
-    /// Out of memory.
-    #[error("no memory")]
+    /// Out of memory: the call may be made again.
+    #[error("no memory: the call may be made again")]
     NoMemory,
 }
 

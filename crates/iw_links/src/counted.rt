@@ -16,8 +16,8 @@ pub enum ReadFault {
     /// A read failed.
     #[error("the input could not be read")]
     Failed,
-    /// The input did not end within the most reads.
-    #[error("the input did not end within 1,000,000 reads")]
+    /// The input did not end within the most reads: end the connection.
+    #[error("the input did not end within 1,000,000 reads: end the connection")]
     TooMany,
 }
 

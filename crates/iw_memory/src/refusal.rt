@@ -3,14 +3,14 @@ use thiserror::Error;
 /// Why a domain was not added: the first reason that holds.
 #[derive(Clone, Copy, Debug, PartialEq, Eq, Error)]
 pub enum DomainRefusal {
-    /// 0 is no domain's number.
-    #[error("0 is no domain")]
+    /// The number is 0: a domain's is 1 to 255.
+    #[error("a domain's number is 1 to 255")]
     BadDomain,
     /// The domain was added before.
     #[error("the domain was added before")]
     DomainTaken,
-    /// Out of memory.
-    #[error("no memory")]
+    /// Out of memory: the call may be made again.
+    #[error("no memory: the call may be made again")]
     NoMemory,
 }
 
@@ -18,19 +18,19 @@ pub enum DomainRefusal {
 #[derive(Clone, Copy, Debug, PartialEq, Eq, Error)]
 pub enum RegisterRefusal {
     /// The domain was not added.
-    #[error("the domain was not added")]
+    #[error("the domain was not added: add it first")]
     NoDomain,
-    /// The domain has 1,024 regions.
-    #[error("the domain is full")]
+    /// The domain has 1,024 regions, valid or not: deregister one, or use another domain.
+    #[error("the domain has 1,024 regions: deregister one, or use another domain")]
     DomainFull,
-    /// There are more than 16,777,216 octets.
-    #[error("too many octets for a region")]
+    /// There are more than 16,777,216 octets, the most that a region has: register them in parts.
+    #[error("a region has at most 16,777,216 octets: register them in parts")]
     TooLong,
-    /// The base and the number of octets come to more than 2^64.
-    #[error("the tagged offsets wrap")]
+    /// The base and the number of octets come to more than 2^64: use a lower base.
+    #[error("the region reaches past tagged offset 2^64: use a lower base")]
     BaseWrap,
-    /// Out of memory.
-    #[error("no memory")]
+    /// Out of memory: the call may be made again.
+    #[error("no memory: the call may be made again")]
     NoMemory,
 }
 
@@ -40,8 +40,8 @@ pub enum StoreRefusal {
     /// The STag names no region.
     #[error("the STag names no region")]
     NoRegion,
-    /// Not all the octets would stand in the region.
-    #[error("the octets are not all in the region")]
+    /// Not all the octets would stand in the region: [`Memory::facts`](crate::Memory::facts) tells where it lies.
+    #[error("not all the octets lie in the region: `facts` tells where it lies")]
     Outside,
 }
 

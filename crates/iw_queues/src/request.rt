@@ -25,13 +25,14 @@ pub enum Kind {
 /// Why a message is not posted: the first reason that holds, in the order of the variants.
 #[derive(Clone, Copy, Debug, PartialEq, Eq, Error)]
 pub enum Refusal {
-    /// 256 messages are posted and not yet handed out.
-    #[error("256 messages are posted and not yet handed out")]
+    /// 256 messages are posted and not yet handed out: send parts, and take out what is done.
+    #[error("256 messages are posted and not yet handed out: send parts, and take out what is done")]
     Full,
-    /// The message has more than 16,777,216 octets, or is a Read that asks for more.
-    #[error("the message or Read has more than 16,777,216 octets")]
+    /// The message has more than 16,777,216 octets, or is a Read that asks for more: post it in parts.
+    #[error("a message or Read has at most 16,777,216 octets: post it in parts")]
     TooLong,
-    #[error("no memory")]
+    /// Out of memory: the call may be made again.
+    #[error("no memory: the call may be made again")]
     NoMemory,
 }
 

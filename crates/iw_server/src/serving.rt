@@ -14,13 +14,13 @@ pub const MOST_READY: usize = 1_024;
 #[derive(Clone, Copy, Debug, PartialEq, Eq, Error)]
 pub enum ServeFault {
     /// The host could not wait, or has no clock.
-    #[error("the host failed")]
+    #[error("the host could not wait, or has no clock")]
     Host,
     /// The output failed.
     #[error("the output failed")]
     Output,
     /// Out of memory, before the first connection.
-    #[error("no memory")]
+    #[error("no memory before the first connection: the call may be made again")]
     NoMemory,
 }
 

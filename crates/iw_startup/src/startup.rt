@@ -21,7 +21,7 @@ use thiserror::Error;
 
 /// Nobody waits for an answer: this end is an initiator, or the Request is not whole, faulty, or answered already.
 #[derive(Clone, Copy, Debug, PartialEq, Eq, Error)]
-#[error("no Request waits for an answer")]
+#[error("no MPA Request waits for an answer")]
 pub struct NotAsked;
 
 /// One end's part in the start-up of a connection.

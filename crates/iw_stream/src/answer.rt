@@ -21,19 +21,20 @@ pub const NO_MATCHING_RTR: Fault = Fault {
 /// Why a stream is not opened: the first reason that holds.
 #[derive(Clone, Copy, Debug, PartialEq, Eq, Error)]
 pub enum OpenRefusal {
-    /// The number was opened before.
-    #[error("a stream with this number was opened before")]
+    /// A stream was opened under this number before: use `open_next`.
+    #[error("a stream was opened under this number before: use `open_next`")]
     NumberTaken,
-    /// No stream has this number.
-    #[error("no stream has this number")]
+    /// The number is greater than 63: `open_next` gives others.
+    #[error("a number that is picked is 0 to 63: `open_next` gives others")]
     BadNumber,
     /// The domain was not added.
-    #[error("the domain was not added")]
+    #[error("the domain was not added: add it first")]
     NoDomain,
     /// An initiator that asks for revision 2 has over 508 octets of private data (RFC 6581 9).
-    #[error("the private data has more than 508 octets")]
+    #[error("private data has at most 512 octets, and 508 in an enhanced start-up frame")]
     PrivateTooLong,
-    #[error("no memory")]
+    /// Out of memory: the call may be made again.
+    #[error("no memory: the call may be made again")]
     NoMemory,
 }
 
@@ -41,19 +42,20 @@ pub enum OpenRefusal {
 /// `TooLong`, `NoMemory`.
 #[derive(Clone, Copy, Debug, PartialEq, Eq, Error)]
 pub enum PostRefusal {
-    /// 256 messages are posted and not yet handed out.
-    #[error("256 messages are posted and not yet handed out")]
+    /// 256 messages are posted and not yet handed out: emit, and work until one is done.
+    #[error("256 messages are posted and not yet done: emit, and work until one is")]
     Full,
-    /// The message has too many octets, or the Read asks for too many.
-    #[error("the message or Read has more than 16,777,216 octets")]
+    /// The message has more than 16,777,216 octets, or the Read asks for more: post it in parts.
+    #[error("a message or Read has at most 16,777,216 octets: post it in parts")]
     TooLong,
     /// The stream is not open yet, or has ended.
-    #[error("the stream is not open")]
+    #[error("the stream is not open yet, or has ended")]
     NotOpen,
     /// The peer takes no Reads: its IRD is 0 (RFC 6581 9.1).
     #[error("the peer takes no Reads")]
     NoReads,
-    #[error("no memory")]
+    /// Out of memory: the call may be made again.
+    #[error("no memory: the call may be made again")]
     NoMemory,
 }
 
@@ -61,10 +63,10 @@ pub enum PostRefusal {
 #[derive(Clone, Copy, Debug, PartialEq, Eq, Error)]
 pub enum AnswerRefusal {
     /// This end is an initiator, the Request is not whole, or it is answered already; or the stream has ended.
-    #[error("no Request waits for an answer")]
+    #[error("no MPA Request waits for an answer")]
     NotAsked,
     /// The answer to an enhanced Request has over 508 octets of private data (RFC 6581 9).
-    #[error("the private data has more than 508 octets")]
+    #[error("private data has at most 512 octets, and 508 in an enhanced start-up frame")]
     PrivateTooLong,
 }
 
@@ -72,23 +74,25 @@ pub enum AnswerRefusal {
 /// `NoMemory`.
 #[derive(Clone, Copy, Debug, PartialEq, Eq, Error)]
 pub enum RecvRefusal {
-    /// 256 buffers are posted and not yet handed back.
-    #[error("256 receive buffers are posted and not yet handed back")]
+    /// 256 buffers are posted and not yet handed back: work until one is.
+    #[error("256 receive buffers are posted: work until one is handed back")]
     Full,
-    #[error("no memory")]
+    /// Out of memory: the call may be made again.
+    #[error("no memory: the call may be made again")]
     NoMemory,
-    #[error("the stream has ended")]
+    /// The stream has ended: close it.
+    #[error("the stream has ended: close it")]
     Ended,
-    /// The stream's receive buffers come from a pool.
-    #[error("the stream shares a pool of receive buffers")]
+    /// The stream takes its receive buffers from its domain's pool: post them there.
+    #[error("the stream takes its receive buffers from its domain's pool: post them there")]
     Shared,
 }
 
 /// Why the sequence number of the peer's first octet is not set.
 #[derive(Clone, Copy, Debug, PartialEq, Eq, Error)]
 pub enum FirstRefusal {
-    /// Octets were delivered before, and kept or dropped.
-    #[error("octets were delivered before")]
+    /// Octets were delivered on the stream before, and kept or dropped.
+    #[error("octets were delivered on the stream before: set the first number before that")]
     Late,
 }
 
@@ -96,7 +100,7 @@ pub enum FirstRefusal {
 #[derive(Clone, Copy, Debug, PartialEq, Eq, Error)]
 pub enum SizeRefusal {
     /// It is outside 128 to 64,512 octets.
-    #[error("the ULPDU size is outside 128 to 64,512 octets")]
+    #[error("the maximum ULPDU is 128 to 64,512 octets")]
     BadSize,
 }
 

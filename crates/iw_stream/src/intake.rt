@@ -18,11 +18,12 @@ pub enum Intake {
 #[derive(Clone, Copy, Debug, PartialEq, Eq, Error)]
 pub enum LendRefusal {
     /// The window has no room: [`Stream::work`](crate::Stream::work) makes room.
-    #[error("the window has no room")]
+    #[error("the window has no room: work until idle makes some")]
     Full,
     /// The stream has ended: what comes is dropped.
-    #[error("the stream has ended")]
+    #[error("the stream has ended: what comes is dropped")]
     Ended,
-    #[error("no memory")]
+    /// Out of memory: the call may be made again.
+    #[error("no memory: the call may be made again")]
     NoMemory,
 }

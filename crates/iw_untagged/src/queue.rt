@@ -23,11 +23,11 @@ const MSN_RANGE: u32 = 256;
 /// Why a receive buffer was not posted: the first reason that holds.
 #[derive(Clone, Copy, Debug, PartialEq, Eq, Error)]
 pub enum BufferRefusal {
-    /// A queue has 256 buffers, or a pool 1,024. A queue that shares a pool takes none.
-    #[error("as many buffers are posted as may be")]
+    /// A queue has 256 buffers, or a pool 1,024: one has to go first. A queue that shares a pool takes none.
+    #[error("a queue has at most 256 buffers, a pool 1,024, and a queue that shares a pool none")]
     Full,
-    /// Out of memory.
-    #[error("no memory")]
+    /// Out of memory: the call may be made again.
+    #[error("no memory: the call may be made again")]
     NoMemory,
 }
 

@@ -272,7 +272,7 @@ fn a_closed_stream_has_nothing_to_do(rt: HostRuntime) -> Result<(), Fail> {
 const LIMITED: &str = "Stag(01000000) for 64
 Stag(01000000) written by 64
 fault of layer 1, type 1, code 2 of 65
-none for 65: the stream has ended
+none for 65: the stream has ended: close it
 octets [104, 105, 46, 46]
 ";
 
