@@ -1,18 +1,21 @@
 -- A change of one slot leaves all else as it is.
-use Rattle.std.proofs.Common.{◌≡◌, ◌≢◌, ℕ, suc, ◌+◌, ◌-◌, ◌%◌, ◌⊎◌, ◌<◌, ◌==◌, not, is_none, nat_lt, Bool, true, false, cond, List, [], ◌∷◌, ◌++◌, length, get_or, set, Option, Some, None, refl, sym, ap, subst, ◌∙◌, arith, inl, inr, get_or-set_same, get_or-set_other, length-append}
-use Rattle.std.proofs.lemmas.List.{get_or_past}
+use Rattle.std.proofs.Common.{◌≡◌, ◌≢◌, ℕ, suc, ◌+◌, ◌-◌, ◌*◌, ◌/◌, ◌%◌, ◌⊎◌, ◌<◌, ◌==◌, if◌then◌else◌, IsSome, drop, replicate, add-zero, not, is_none, nat_lt, Bool, true, false, cond, List, [], ◌∷◌, ◌++◌, length, get_or, set, Option, Some, None, refl, sym, ap, subst, ◌∙◌, arith, inl, inr, get_or-set_same, get_or-set_other, length-append}
+use Rattle.std.proofs.lemmas.List.{get_or_past, append-nil, length-replicate, get_or-drop}
+use Rattle.std.proofs.lemmas.List.Sums.{position_or_len_is}
 use Rattle.std.proofs.lemmas.Option.{none-some}
 use Rattle.std.proofs.lemmas.Bool.{cases_lt, eq-eqb, eqb-true, lt-ltb, le-ltb}
 use Rattle.std.proofs.lemmas.Bool.Decides.{eqb_tells}
 use Rattle.std.specs.Option.{option_map}
 use Rattle.iw_octets.specs.declared.stag.Stag.{Stag}
+use Rattle.iw_memory.specs.declared.refusal.RegisterRefusal.TheVariants.{NoDomain}
 use Rattle.iw_memory.specs.Region.{Region, facts_of, region_with}
-use Rattle.iw_memory.specs.Part.{SlotState, unused, under_key, own_slots, free_slot, with_room}
-use Rattle.iw_memory.specs.Table.{Table, part_of, with_part, slots_of, region_at, with_slot, with_region, put, deregistered, registered, next_stag}
-use Rattle.iw_memory.specs.Laws.{ChangesOneStag, PutsAt, RegistersAt}
-use Rattle.iw_memory.proofs.ListLemmas.{get_or-push_default, length-overlay}
+use Rattle.iw_memory.specs.Part.{SlotState, unused, under_key, own_slots, free_slot, free_from, drawn_key, up_to, with_room}
+use Rattle.iw_memory.specs.Inside.{IsVacant}
+use Rattle.iw_memory.specs.Table.{Table, is_added, register_refusal, part_of, with_part, slots_of, region_at, with_slot, with_region, put, deregistered, registered, registered_at, next_stag, drawn_stag}
+use Rattle.iw_memory.specs.Laws.{ChangesOneStag, PutsAt, RegistersAt, DrawsAt, WasLast, DrawsAnother, IsOpen, IsDrawn}
+use Rattle.iw_memory.proofs.ListLemmas.{get_or-push_default, get_or-padded, length-overlay}
 use Rattle.iw_memory.proofs.SlotLemmas.{first_within}
-use Rattle.iw_memory.proofs.TableLemmas.{cond_region, slots_are, nothing_under, with_region-found, with_region-none, deregistered-found, deregistered-none}
+use Rattle.iw_memory.proofs.TableLemmas.{register_refusal-absent, cond_region, slots_are, nothing_under, with_region-found, with_region-none, deregistered-found, deregistered-none}
 
 added_within : (table : Table) (d : ℕ) (ss : List SlotState) → part_of table d ≡ Some ss → d < length table
 added_within table d ss e = elim (cases_lt d (length table)) [
@@ -137,6 +140,157 @@ registered-changes table pd region there =
           subst (λ o. ChangesOneStag table (registered table pd region) stag o) (ap (λ b. cond b (Some region) None) (eq-eqb stag.key stag.key refl))
           (slot_changes table stag (with_room slots) s there (room_within slots) (room_reads slots)
           (λ key ne. other_key s stag.key key refl ne ∙ sym (was key (free_none slots))));
+    }
+
+-- ---- STags that are drawn
+
+drawn_none : (slots : List SlotState) (place : ℕ) → (get_or slots (place + free_slot (drop place slots)) unused).region ≡ None
+drawn_none slots place =
+    ap (λ (s : SlotState). s.region) (sym (get_or-drop place slots (free_slot (drop place slots)) unused)) ∙ free_none (drop place slots)
+
+-- the slot that is found from a place on has no region
+pub free_from-none : (slots : List SlotState) (place : ℕ) → (get_or slots (free_from slots place) unused).region ≡ None
+free_from-none slots place = elim (nat_lt (place + free_slot (drop place slots)) 1024) as (λ b. (get_or slots (cond b (place + free_slot (drop place slots)) (free_slot slots)) unused).region ≡ None) [
+  | true ↦ drawn_none slots place
+  | false ↦ free_none slots
+]
+
+pub free_from-within : (slots : List SlotState) (place : ℕ) → free_slot slots < 1024 → free_from slots place < 1024
+free_from-within slots place some = elim (cases_lt (place + free_slot (drop place slots)) 1024) [
+  | inl there ↦ rw (lt-ltb _ _ there) there
+  | inr past ↦ rw (le-ltb _ _ past) some
+]
+
+up_to-within : (slots : List SlotState) (i : ℕ) → i < length (up_to slots i)
+up_to-within slots i = omega (arith, length-append slots (replicate (i + 1 - length slots) unused), length-replicate (i + 1 - length slots) unused)
+
+-- a registration in a slot that has no region
+registered_at-changes : (table : Table) (stag : Stag) (region : Region) → stag.domain < length table → (get_or (slots_of table stag.domain) stag.slot unused).region ≡ None →
+    ChangesOneStag table (registered_at table stag region) stag (Some region)
+registered_at-changes table stag region there none =
+    let slots = slots_of table stag.domain in
+    let s : SlotState = record { key = stag.key; region = Some region } in
+    subst (λ o. ChangesOneStag table (registered_at table stag region) stag o) (ap (λ b. cond b (Some region) None) (eq-eqb stag.key stag.key refl))
+    (slot_changes table stag (up_to slots stag.slot) s there (up_to-within slots stag.slot) (λ m. get_or-padded slots (stag.slot + 1 - length slots) m unused)
+    (λ key ne. other_key s stag.key key refl ne ∙ sym (no_region (get_or slots stag.slot unused) key none)))
+
+pub drawn-changes : (table : Table) (pd drawn : ℕ) (region : Region) → pd < length table → DrawsAt table pd drawn region
+drawn-changes table pd drawn region there =
+    let stag = drawn_stag table pd drawn in
+    let none = free_from-none (slots_of table pd) (drawn % 1024) in record {
+      was_free = no_region (get_or (slots_of table pd) stag.slot unused) stag.key none;
+      named = registered_at-changes table stag region there none;
+    }
+
+next_room : (slots : List SlotState) → with_room slots ≡ up_to slots (free_slot slots)
+next_room slots = elim (cases_lt (free_slot slots) (length slots)) [
+  | inl there ↦
+      let none : 0 ≡ free_slot slots + 1 - length slots = omega arith in
+      ap (λ b. cond b slots (slots ++ unused ∷ [])) (lt-ltb _ _ there) ∙ sym (append-nil slots) ∙ ap (λ n. slots ++ replicate n unused) none
+  | inr past ↦
+      let one : 1 ≡ free_slot slots + 1 - length slots = omega (arith, first_within (λ (s : SlotState). is_none s.region) slots) in
+      ap (λ b. cond b slots (slots ++ unused ∷ [])) (le-ltb _ _ past) ∙ ap (λ n. slots ++ replicate n unused) one
+]
+
+pub registered-at_next : (table : Table) (pd : ℕ) (region : Region) → registered table pd region ≡ registered_at table (next_stag table pd) region
+registered-at_next table pd region =
+    let i = free_slot (slots_of table pd) in
+    ap (λ slots. with_part table pd (Some (set slots i (record { key = (get_or (slots_of table pd) i unused).key; region = Some region })))) (next_room (slots_of table pd))
+
+-- a domain in which nothing is refused was added
+added_if_none : (table : Table) (pd base len : ℕ) → None ≡ register_refusal table pd base len → is_added table pd ≡ true
+added_if_none table pd base len none = go (is_added table pd) refl
+  where
+    go : (b : Bool) → is_added table pd ≡ b → b ≡ true
+    go true e = refl
+    go false e = absurd (none-some NoDomain (none ∙ register_refusal-absent table pd base len e))
+
+-- the slots of the STags that are given out have no region
+pub next-vacant : (table : Table) (pd base len : ℕ) (stag : Stag) → None ≡ register_refusal table pd base len → free_slot (slots_of table pd) < 1024 → stag ≡ next_stag table pd → IsVacant table stag
+next-vacant table pd base len stag none some is =
+    subst (λ (s : Stag). IsVacant table s) (sym is) (record { added = added_if_none table pd base len none; small = some; none = free_none (slots_of table pd) })
+
+pub drawn-vacant : (table : Table) (pd base len drawn : ℕ) (stag : Stag) → None ≡ register_refusal table pd base len → free_slot (slots_of table pd) < 1024 → stag ≡ drawn_stag table pd drawn → IsVacant table stag
+drawn-vacant table pd base len drawn stag none some is =
+    subst (λ (s : Stag). IsVacant table s) (sym is) (record {
+      added = added_if_none table pd base len none;
+      small = free_from-within (slots_of table pd) (drawn % 1024) some;
+      none = free_from-none (slots_of table pd) (drawn % 1024);
+    })
+
+-- the slot is as it was left
+slot_left : (table : Table) (stag : Stag) (s : SlotState) → stag.domain < length table → stag.slot < length (slots_of table stag.domain) → get_or (slots_of (with_slot table stag.domain stag.slot s) stag.domain) stag.slot unused ≡ s
+slot_left table stag s there within =
+    ap (λ p. get_or (own_slots p) stag.slot unused) (get_or-set_same table stag.domain (Some (set (slots_of table stag.domain) stag.slot s)) None there)
+    ∙ get_or-set_same (slots_of table stag.domain) stag.slot s unused within
+
+deregistered-last : (table : Table) (stag : Stag) (r : Region) → stag.key < 256 → region_at table stag ≡ Some r → WasLast (deregistered table stag) stag
+deregistered-last table stag r small found =
+    let s : SlotState = record { key = (stag.key + 1) % 256; region = None } in record {
+      key = small;
+      next =
+          ap (λ t. (get_or (slots_of t stag.domain) stag.slot unused).key) (deregistered-found table stag r found)
+          ∙ ap (λ (s : SlotState). s.key) (slot_left table stag s (named_within table stag r found) (slot_within (slots_of table stag.domain) stag.slot stag.key r found));
+    }
+
+taken_out : (table : Table) (stag : Stag) → stag.key < 256 → (o : Option Region) → region_at table stag ≡ o → IsSome o → WasLast (deregistered table stag) stag
+taken_out table stag small None found some = cc
+taken_out table stag small (Some r) found some = deregistered-last table stag r small found
+
+-- the key before the next one is not among the 255 that are drawn
+not_the_last : (key next turn : ℕ) → key < 256 → next ≡ (key + 1) % 256 → turn < 255 → (next + turn) % 256 ≡ key → ⊥
+not_the_last key next turn small is few same = omega arith
+
+pub last-not_drawn : (table : Table) (stag : Stag) → DrawsAnother table stag
+last-not_drawn table stag = record {
+  taken_out = λ small some. taken_out table stag small (region_at table stag) refl some;
+  not_drawn = λ last pd drawn same.
+      let domain : pd ≡ stag.domain = ap (λ (s : Stag). s.domain) same in
+      let slot : free_from (slots_of table pd) (drawn % 1024) ≡ stag.slot = ap (λ (s : Stag). s.slot) same in
+      let next : (get_or (slots_of table pd) (free_from (slots_of table pd) (drawn % 1024)) unused).key ≡ (stag.key + 1) % 256 =
+      ap (λ i. (get_or (slots_of table pd) i unused).key) slot ∙ ap (λ d. (get_or (slots_of table d) stag.slot unused).key) domain ∙ last.next in
+      not_the_last stag.key (get_or (slots_of table pd) (free_from (slots_of table pd) (drawn % 1024)) unused).key (drawn / 1024 % 255) last.key next (omega arith) (ap (λ (s : Stag). s.key) same);
+}
+
+-- a free slot is the first from its own place on
+free_here : (slots : List SlotState) (i : ℕ) → (get_or slots i unused).region ≡ None → free_slot (drop i slots) ≡ 0
+free_here slots i none =
+    position_or_len_is (λ (s : SlotState). is_none s.region) (drop i slots) 0 unused (omega arith) (λ k before. absurd (omega arith))
+    (λ some. ap (λ (s : SlotState). is_none s.region) (get_or-drop i slots 0 unused) ∙ ap is_none (let same : (get_or slots (i + 0) unused).region ≡ None = rw add-zero none in same))
+
+free_from-here : (slots : List SlotState) (i : ℕ) → i < 1024 → (get_or slots i unused).region ≡ None → free_from slots i ≡ i
+free_from-here slots i small none =
+    let here : i + free_slot (drop i slots) ≡ i = omega (arith, free_here slots i none) in
+    (λ t. if nat_lt (here t) 1024 then here t else free_slot slots) ∙ ap (λ b. cond b i (free_slot slots)) (lt-ltb i 1024 small)
+
+-- the number that draws a slot that is free, and this turn of its keys
+drawn_by : (slot turn : ℕ) → slot < 1024 → turn < 255 → ((slot + 1024 * turn) % 1024 ≡ slot) × ((slot + 1024 * turn) / 1024 % 255 ≡ turn)
+drawn_by slot turn small few =
+    let place : (slot + 1024 * turn) / 1024 ≡ turn = omega arith in (omega arith, ap (λ n. n % 255) place ∙ (let same : turn % 255 ≡ turn = omega arith in same))
+
+turn_of : (key next : ℕ) → key < 256 → next < 256 → next ≢ (key + 1) % 256 → ((key + 256 - next) % 256 < 255) × ((next + (key + 256 - next) % 256) % 256 ≡ key)
+turn_of key next small fits ne = (
+  elim (cases_lt ((key + 256 - next) % 256) 255) [
+    | inl few ↦ few
+    | inr most ↦ absurd (ne (omega arith))
+  ],
+  omega arith,
+)
+
+pub each-drawn : (table : Table) (stag : Stag) → IsOpen table stag → IsDrawn table stag
+each-drawn table stag is =
+    let slots = slots_of table stag.domain in
+    let next = (get_or slots stag.slot unused).key in
+    let turn = (stag.key + 256 - next) % 256 in
+    let turned = turn_of stag.key next is.key is.next is.not_last in
+    let by = drawn_by stag.slot turn is.slot turned.0 in
+    let slot : free_from slots ((stag.slot + 1024 * turn) % 1024) ≡ stag.slot = ap (free_from slots) by.0 ∙ free_from-here slots stag.slot is.slot is.none in
+    let key : drawn_key (get_or slots (free_from slots ((stag.slot + 1024 * turn) % 1024)) unused) (stag.slot + 1024 * turn) ≡ stag.key =
+    ap (λ i. drawn_key (get_or slots i unused) (stag.slot + 1024 * turn)) slot ∙ ap (λ n. (next + n) % 256) by.1 ∙ turned.1 in
+    record {
+      drawn = stag.slot + 1024 * turn;
+      fits = omega (arith, is.slot, turned.0);
+      is = λ t. record { domain = stag.domain; slot = slot t; key = key t };
     }
 
 -- ---- what is put keeps each region's facts

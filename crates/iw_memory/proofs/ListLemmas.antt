@@ -34,6 +34,17 @@ get_or-push_default [] d (suc m) = refl
 get_or-push_default (x ∷ xs) d zero = refl
 get_or-push_default (x ∷ xs) d (suc m) = get_or-push_default xs d m
 
+pub get_or-replicate_default : {X : Type 0} (n i : ℕ) (x : X) → get_or (replicate n x) i x ≡ x
+get_or-replicate_default zero i x = refl
+get_or-replicate_default (suc n) zero x = refl
+get_or-replicate_default (suc n) (suc i) x = get_or-replicate_default n i x
+
+-- any number more of the default reads the same
+pub get_or-padded : {X : Type 0} (xs : List X) (n i : ℕ) (x : X) → get_or (xs ++ replicate n x) i x ≡ get_or xs i x
+get_or-padded [] n i x = get_or-replicate_default n i x
+get_or-padded (y ∷ ys) n zero x = refl
+get_or-padded (y ∷ ys) n (suc i) x = get_or-padded ys n i x
+
 -- what is written over is as long as before
 pub length-overlay : (octets : List ℕ) (at : ℕ) (new : List ℕ) → length (overlay octets at new) ≡ length octets
 length-overlay octets at new = grind (arith, length-take, length-append, length-drop)

@@ -2,7 +2,7 @@
 use Rattle.std.proofs.Common.{◌≡◌, ℕ, ◌<◌, length, None, refl, sym, ap, subst, get_or-set_same, get_or-set_other}
 use Rattle.iw_memory.specs.Part.{Part, own_region, own_store_refusal, own_changed, own_put, own_invalidated, own_deregistered}
 use Rattle.iw_memory.specs.Table.{Table, part_of, with_part}
-use Rattle.iw_memory.specs.Laws.{SetsPart, OwnSteps}
+use Rattle.iw_memory.specs.Laws.{SetsPart, OwnSteps, OwnDraws}
 
 -- a part that is put at a domain is that domain's, and the other domains keep theirs
 pub with_part-sets : (table : Table) (domain : ℕ) (part : Part) → domain < length table → SetsPart table (with_part table domain part) domain part
@@ -29,4 +29,10 @@ domains_apart table domain within = record {
   deregisters = λ stag here. step table domain (λ part. own_deregistered part stag) within stag.domain here;
   registers = λ region. with_part-sets table domain _ within;
   adds = with_part-sets table domain _ within;
+}
+
+pub draws_apart : (table : Table) (domain : ℕ) → domain < length table → OwnDraws table domain
+draws_apart table domain within = record {
+  numbered = λ drawn. refl;
+  registers = λ drawn region. with_part-sets table domain _ within;
 }

@@ -1,21 +1,12 @@
 -- The places of domains, and all domains beyond them.
-use Rattle.std.proofs.Common.{◌≡◌, ℕ, zero, suc, ◌-◌, ◌<◌, ◌≤◌, List, [], ◌∷◌, ◌++◌, replicate, length, get_or, set, Option, Some, None, true, is_some, IsTrue, inl, inr, refl, sym, ap, ◌∙◌, arith, length-append}
+use Rattle.std.proofs.Common.{◌≡◌, ℕ, suc, ◌-◌, ◌<◌, ◌≤◌, List, [], ◌∷◌, ◌++◌, replicate, length, get_or, set, Option, Some, None, true, is_some, IsTrue, inl, inr, refl, sym, ap, ◌∙◌, arith, length-append}
 use Rattle.std.proofs.lemmas.List.{append_assoc, set-append_left, set-get_or, get_or_past, get_or_default, length-set}
 use Rattle.std.proofs.lemmas.Bool.{cases_lt}
 use Rattle.std.specs.Option.{unwrap_or}
 use Rattle.iw_memory.specs.declared.slots.Slot.{Slot}
 use Rattle.iw_memory.specs.Inside.{Slots, slots_in, no_places, all_places}
+use Rattle.iw_memory.proofs.ListLemmas.{get_or-padded}
 use Rattle.iw_memory.proofs.SlotLemmas.{not_none}
-
-get_or-replicate_default : {X : Type 0} (n i : ℕ) (x : X) → get_or (replicate n x) i x ≡ x
-get_or-replicate_default zero i x = refl
-get_or-replicate_default (suc n) zero x = refl
-get_or-replicate_default (suc n) (suc i) x = get_or-replicate_default n i x
-
-get_or-padded : {X : Type 0} (xs : List X) (n i : ℕ) (x : X) → get_or (xs ++ replicate n x) i x ≡ get_or xs i x
-get_or-padded [] n i x = get_or-replicate_default n i x
-get_or-padded (y ∷ ys) n zero x = refl
-get_or-padded (y ∷ ys) n (suc i) x = get_or-padded ys n i x
 
 pub all_places-none : all_places [] ≡ no_places
 unfolding no_places

@@ -1,8 +1,8 @@
 -- The slots of a domain, in the vectors.
-use Rattle.std.proofs.Common.{◌≡◌, ℕ, suc, ◌+◌, ◌<◌, ◌≤◌, true, false, cond, not, nat_lt, Bool, List, [], ◌∷◌, ◌++◌, map, length, get_or, Option, Some, None, is_some, IsTrue, refl, sym, ap, subst, ◌∙◌, arith, inl, inr, length-append}
-use Rattle.iw_memory.proofs.ListLemmas.{get_or-push_default}
-use Rattle.std.proofs.lemmas.List.{get_or_past}
-use Rattle.std.proofs.lemmas.Bool.{cases_lt, lt-ltb, le-ltb}
+use Rattle.std.proofs.Common.{◌≡◌, ℕ, suc, ◌+◌, ◌-◌, ◌<◌, ◌≤◌, true, false, cond, not, Bool, List, [], ◌∷◌, ◌++◌, map, replicate, length, get_or, Option, Some, None, is_some, IsTrue, refl, sym, ap, ◌∙◌, arith, inl, inr, length-append}
+use Rattle.iw_memory.proofs.ListLemmas.{get_or-padded}
+use Rattle.std.proofs.lemmas.List.{get_or_past, append-nil, append_assoc, length-replicate}
+use Rattle.std.proofs.lemmas.Bool.{cases_lt}
 use Rattle.std.specs.List.{position_or_len}
 use Rattle.std.specs.Option.{unwrap_or}
 use Rattle.iw_memory.specs.declared.slots.Slot.{Slot}
@@ -37,22 +37,24 @@ position_or_len-map f p q (x ∷ xs) d h =
 
 -- the slots with room for a slot that is there, and for the one past the last
 pub with_room-there : (slots : List Slot) (i : ℕ) → i < length slots → slots ≡ with_room_at slots i
-with_room-there slots i l = sym (ap (λ b. cond b slots (slots ++ free ∷ [])) (lt-ltb i (length slots) l))
+with_room-there slots i l =
+    let none : i + 1 - length slots ≡ 0 = omega arith in
+    sym (ap (λ n. slots ++ replicate n free) none ∙ append-nil slots)
 
-pub with_room-past : (slots : List Slot) (i : ℕ) → length slots ≤ i → slots ++ free ∷ [] ≡ with_room_at slots i
-with_room-past slots i l = sym (ap (λ b. cond b slots (slots ++ free ∷ [])) (le-ltb i (length slots) l))
+pub with_room-next : (slots : List Slot) → slots ++ free ∷ [] ≡ with_room_at slots (length slots)
+with_room-next slots = let one : 1 ≡ length slots + 1 - length slots = omega arith in ap (λ n. slots ++ replicate n free) one
 
 pub link_with_room : (slots : List Slot) (i m : ℕ) → get_or (with_room_at slots i) m free ≡ get_or slots m free
-link_with_room slots i m = elim (nat_lt i (length slots)) as (λ b. get_or (cond b slots (slots ++ free ∷ [])) m free ≡ get_or slots m free) [ true ↦ refl | false ↦ get_or-push_default slots free m ]
+link_with_room slots i m = get_or-padded slots (i + 1 - length slots) m free
 
-pub within_room : (slots : List Slot) (i : ℕ) → i ≤ length slots → i < length (with_room_at slots i)
-within_room slots i l = elim (cases_lt i (length slots)) [
-  | inl there ↦ subst (λ (ss : List Slot). i < length ss) (with_room-there slots i there) there
-  | inr past ↦ subst (λ (ss : List Slot). i < length ss) (with_room-past slots i past) (omega (arith, length-append slots (free ∷ [])))
-]
+pub within_room : (slots : List Slot) (i : ℕ) → i < length (with_room_at slots i)
+within_room slots i = omega (arith, length-append slots (replicate (i + 1 - length slots) free), length-replicate (i + 1 - length slots) free)
 
-pub small_room : (slots : List Slot) (i : ℕ) → i ≤ length slots → i < 1024 → length slots ≤ 1024 → length (with_room_at slots i) ≤ 1024
-small_room slots i l bound few = elim (cases_lt i (length slots)) [
-  | inl there ↦ subst (λ (ss : List Slot). length ss ≤ 1024) (with_room-there slots i there) few
-  | inr past ↦ subst (λ (ss : List Slot). length ss ≤ 1024) (with_room-past slots i past) (omega (arith, length-append slots (free ∷ [])))
-]
+pub small_room : (slots : List Slot) (i : ℕ) → i < 1024 → length slots ≤ 1024 → length (with_room_at slots i) ≤ 1024
+small_room slots i bound few = omega (arith, length-append slots (replicate (i + 1 - length slots) free), length-replicate (i + 1 - length slots) free)
+
+-- one more slot is appended, and one fewer is left to append
+pub filled_more : (slots : List Slot) (there len : ℕ) → there < len → (slots ++ free ∷ []) ++ replicate (len - (there + 1)) free ≡ slots ++ replicate (len - there) free
+filled_more slots there len more =
+    let one : suc (len - (there + 1)) ≡ len - there = omega arith in
+    append_assoc slots (free ∷ []) (replicate (len - (there + 1)) free) ∙ ap (λ k. slots ++ replicate k free) one

@@ -1,7 +1,7 @@
 -- What the fields of a memory mean as a table, and how that changes with them.
-use Rattle.std.proofs.Common.{IsTrue, subst, IsSome, IsSomeAnd, IfSome, ◌≤◌, ◌≡◌, ◌≢◌, ℕ, zero, suc, ◌+◌, ◌%◌, ◌-◌, ◌<◌, ◌^◌, ◌==◌, nat_lt, nat_le, not, if◌then◌else◌, Bool, true, false, cond, List, [], ◌∷◌, ◌++◌, map, length, get_or, set, replicate, take, Option, Some, None, is_some, is_none, ◌||◌, refl, sym, ap, ◌∙◌, arith, inl, inr, get_or-set_other, get_or-set_same}
+use Rattle.std.proofs.Common.{drop, IsTrue, subst, IsSome, IsSomeAnd, IfSome, ◌≤◌, ◌≡◌, ◌≢◌, ℕ, zero, suc, ◌+◌, ◌/◌, ◌%◌, ◌-◌, ◌<◌, ◌^◌, ◌==◌, nat_lt, nat_le, not, if◌then◌else◌, Bool, true, false, cond, List, [], ◌++◌, map, length, get_or, set, replicate, take, Option, Some, None, is_some, is_none, ◌||◌, refl, sym, ap, ◌∙◌, arith, inl, inr, get_or-set_other, get_or-set_same}
 use Rattle.std.proofs.Math.ListN.{get_or-map}
-use Rattle.std.proofs.lemmas.List.{set-get_or, get_or_past, take-append-drop, length-set, map-set, length-map, map-append}
+use Rattle.std.proofs.lemmas.List.{set-get_or, get_or_past, take-append-drop, length-set, map-set, length-map, map-append, drop-map, get_or-drop}
 use Rattle.std.proofs.Math.Seq.{take-length}
 use Rattle.std.proofs.lemmas.Option.{none-some, same_Some}
 use Rattle.std.proofs.lemmas.Bool.{cases_lt, eqb-true}
@@ -17,10 +17,10 @@ use Rattle.iw_memory.specs.declared.refusal.RegisterRefusal.{RegisterRefusal}
 use Rattle.iw_memory.specs.declared.refusal.RegisterRefusal.TheVariants.{NoDomain, DomainFull, TooLong, BaseWrap}
 use Rattle.iw_memory.specs.Region.{Region, Spans, IsWithinLimits, overlay, region_with, octets_from, made_invalid}
 use Rattle.iw_memory.specs.Held.{Held}
-use Rattle.iw_memory.specs.Part.{SlotState, unused, under_key, own_slot, free_slot, with_room}
-use Rattle.iw_memory.specs.Table.{Table, empty, part_of, with_part, slots_of, region_at, with_slot, with_region, put, domain_refusal, register_refusal, is_added, added, registered, deregistered, invalidated, octets_at}
+use Rattle.iw_memory.specs.Part.{SlotState, unused, under_key, own_slot, free_slot, free_from, up_to}
+use Rattle.iw_memory.specs.Table.{Table, empty, part_of, with_part, slots_of, region_at, with_slot, with_region, put, domain_refusal, register_refusal, is_added, added, next_stag, drawn_stag, registered_at, deregistered, invalidated, octets_at}
 use Rattle.iw_memory.specs.Laws.{HoldsLimits, IsWithin}
-use Rattle.iw_memory.specs.Inside.{Slots, no_places, table_of, states_of, state_of, region_in, slots_in, link_at, link_of, free, IsHeldFor, IsSound, AreShared, Keeps, SetsSlots, is_free, with_room_at}
+use Rattle.iw_memory.specs.Inside.{Slots, no_places, table_of, states_of, state_of, region_in, slots_in, link_at, link_of, free, IsHeldFor, IsSound, AreShared, Keeps, SetsSlots, is_free, first_free, with_room_at}
 use Rattle.iw_memory.proofs.ListLemmas.{map-replicate, map-same, map-set_others, set-set}
 use Rattle.iw_memory.proofs.SlotLemmas.{domain_of_slot, domain_added, not_none, position_or_len-map}
 
@@ -494,35 +494,71 @@ table_of-sets old new regions d items sets =
     ap (λ ds. table_of ds regions) sets.after ∙ map-set (states_of regions) old d (Some items)
 
 -- room among the slots is room among the table's
-states-with_room : (regions : Slab Held) (slots : List Slot) (i : ℕ) → free_slot (map (state_of regions) slots) ≡ i → map (state_of regions) (with_room_at slots i) ≡ with_room (map (state_of regions) slots)
-states-with_room regions slots i first =
-    elim (nat_lt i (length slots)) as (λ b. map (state_of regions) (cond b slots (slots ++ free ∷ [])) ≡ cond b (map (state_of regions) slots) (map (state_of regions) slots ++ unused ∷ [])) [ true ↦ refl | false ↦ map-append (state_of regions) slots (free ∷ []) ]
-    ∙ ap (λ n. cond (nat_lt i n) (map (state_of regions) slots) (map (state_of regions) slots ++ unused ∷ [])) (sym (length-map slots (state_of regions)))
-    ∙ ap (λ n. cond (nat_lt n (length (map (state_of regions) slots))) (map (state_of regions) slots) (map (state_of regions) slots ++ unused ∷ [])) (sym first)
+states-with_room : (regions : Slab Held) (slots : List Slot) (i : ℕ) → map (state_of regions) (with_room_at slots i) ≡ up_to (map (state_of regions) slots) i
+states-with_room regions slots i =
+    map-append (state_of regions) slots (replicate (i + 1 - length slots) free)
+    ∙ ap (λ more. map (state_of regions) slots ++ more) (map-replicate (state_of regions) (i + 1 - length slots) free)
+    ∙ ap (λ n. map (state_of regions) slots ++ replicate (i + 1 - n) unused) (sym (length-map slots (state_of regions)))
 
--- a region is stored where no slot links to, and a free slot gets it
-pub table_of-registered : (old mid new : Slots) (before after : Slab Held) (d i k key : ℕ) (h : Held) → IsSound old before → d < length old → free_slot (slots_of (table_of old before) d) ≡ i →
-    SetsSlots old mid d (with_room_at (slots_in old d) i) → SetsSlots mid new d (set (slots_in mid d) i (record { key = key; at = Some k })) →
-    SameElsewhere mid before after d i → get after k ≡ Some h → key ≡ (get_or (slots_in old d) i free).key →
-    table_of new after ≡ registered (table_of old before) d h.region
-table_of-registered old mid new before after d i k key h sound within first room sets same held is =
-    let table = table_of old before in
-    let seen : free_slot (map (state_of before) (slots_in old d)) ≡ i = ap free_slot (sym (slots_of-table_of old before d)) ∙ first in
+-- a region is stored where no slot links to, and a slot gets it
+pub table_of-registered : (old mid new : Slots) (before after : Slab Held) (stag : Stag) (k : ℕ) (h : Held) → stag.domain < length old →
+    SetsSlots old mid stag.domain (with_room_at (slots_in old stag.domain) stag.slot) → SetsSlots mid new stag.domain (set (slots_in mid stag.domain) stag.slot (record { key = stag.key; at = Some k })) →
+    SameElsewhere mid before after stag.domain stag.slot → get after k ≡ Some h →
+    table_of new after ≡ registered_at (table_of old before) stag h.region
+table_of-registered old mid new before after stag k h within room sets same held =
+    let table = table_of old before in let d = stag.domain in let i = stag.slot in
     let middle : table_of mid before ≡ set table d (Some (map (state_of before) (with_room_at (slots_in old d) i))) = table_of-sets old mid before d (with_room_at (slots_in old d) i) room in
-    let slots : slots_of (table_of mid before) d ≡ with_room (slots_of table d) =
+    let slots : slots_of (table_of mid before) d ≡ up_to (slots_of table d) i =
     slots_of-table_of mid before d ∙ ap (map (state_of before)) (slots_in-sets room within)
-    ∙ states-with_room before (slots_in old d) i seen
-    ∙ ap with_room (sym (slots_of-table_of old before d)) in
-    let name : key ≡ (get_or (slots_of table d) i unused).key =
-    is ∙ ap (λ (s : SlotState). s.key) (sym (get_or-map (state_of before) (slots_in old d) i free)) ∙ ap (λ (ss : List SlotState). (get_or ss i unused).key) (sym (slots_of-table_of old before d)) in
-    let stored : state_of after (record { key = key; at = Some k }) ≡ record { key = (get_or (slots_of table d) i unused).key; region = Some h.region } =
-    λ t. record { key = name t; region = ap (option_map (λ x. x.region)) held t } in
-    table_of-set_slot mid new before after d i (record { key = key; at = Some k }) sets same
+    ∙ states-with_room before (slots_in old d) i
+    ∙ ap (λ ss. up_to ss i) (sym (slots_of-table_of old before d)) in
+    let stored : state_of after (record { key = stag.key; at = Some k }) ≡ record { key = stag.key; region = Some h.region } =
+    λ t. record { key = stag.key; region = ap (option_map (λ x. x.region)) held t } in
+    table_of-set_slot mid new before after d i (record { key = stag.key; at = Some k }) sets same
     ∙ ap (with_slot (table_of mid before) d i) stored
-    ∙ ap (λ ss. set (table_of mid before) d (Some (set ss i (record { key = (get_or (slots_of table d) i unused).key; region = Some h.region })))) slots
-    ∙ ap (λ t. set t d (Some (set (with_room (slots_of table d)) i (record { key = (get_or (slots_of table d) i unused).key; region = Some h.region })))) middle
+    ∙ ap (λ ss. set (table_of mid before) d (Some (set ss i (record { key = stag.key; region = Some h.region })))) slots
+    ∙ ap (λ t. set t d (Some (set (up_to (slots_of table d) i) i (record { key = stag.key; region = Some h.region })))) middle
     ∙ set-set table d _ _
-    ∙ ap (λ n. set table d (Some (set (with_room (slots_of table d)) n (record { key = (get_or (slots_of table d) n unused).key; region = Some h.region })))) (sym first)
+
+-- the key that a slot has, and the free slots, as the table tells them
+pub key-table_of : (domains : Slots) (regions : Slab Held) (d i : ℕ) → (get_or (slots_of (table_of domains regions) d) i unused).key ≡ (get_or (slots_in domains d) i free).key
+key-table_of domains regions d i =
+    ap (λ (ss : List SlotState). (get_or ss i unused).key) (slots_of-table_of domains regions d)
+    ∙ ap (λ (s : SlotState). s.key) (get_or-map (state_of regions) (slots_in domains d) i free)
+
+pub free_from-table_of : {domains : Slots} {regions : Slab Held} → IsSound domains regions → (d place : ℕ) → free_from (slots_of (table_of domains regions) d) place ≡ first_free (slots_in domains d) place
+free_from-table_of {domains} {regions} sound d place =
+    let slots = slots_in domains d in
+    let rest : free_slot (drop place (slots_of (table_of domains regions) d)) ≡ position_or_len is_free (drop place slots) =
+    ap (λ ss. free_slot (drop place ss)) (slots_of-table_of domains regions d)
+    ∙ ap free_slot (drop-map (state_of regions) place slots)
+    ∙ position_or_len-map (state_of regions) is_free (λ s. is_none s.region) (drop place slots) free (λ j l.
+    ap (λ (s : Slot). is_none (region_in regions s.at)) (get_or-drop place slots j free)
+    ∙ free-state sound d (place + j)
+    ∙ ap is_free (sym (get_or-drop place slots j free))) in
+    (λ t. if nat_lt (place + rest t) 1024 then place + rest t else free_slot-table_of sound d t)
+
+-- the STag that the code gives next
+pub next-read : (domains : Slots) (regions : Slab Held) (table : Table) → table_of domains regions ≡ table → (pd slot key : ℕ) →
+    slot ≡ free_slot (slots_of table pd) → key ≡ (get_or (slots_in domains pd) slot free).key → record { domain = pd; slot = slot; key = key } ≡ next_stag table pd
+next-read domains regions table view pd slot key first is =
+    let named : key ≡ (get_or (slots_of table pd) (free_slot (slots_of table pd)) unused).key =
+    is ∙ sym (key-table_of domains regions pd slot) ∙ ap (λ t. (get_or (slots_of t pd) slot unused).key) view ∙ ap (λ i. (get_or (slots_of table pd) i unused).key) first in
+    (λ t. record { domain = pd; slot = first t; key = named t })
+
+-- the STag that the code draws
+pub drawn-read : {domains : Slots} {regions : Slab Held} → IsSound domains regions → (table : Table) → table_of domains regions ≡ table → (pd drawn slot key : ℕ) →
+    slot ≡ first_free (slots_in domains pd) (drawn % 1024) → key ≡ (get_or (slots_in domains pd) slot free).key → record { domain = pd; slot = slot; key = (key + drawn / 1024 % 255) % 256 } ≡ drawn_stag table pd drawn
+drawn-read {domains} {regions} sound table view pd drawn slot key found is =
+    let place = drawn % 1024 in
+    let there : slot ≡ free_from (slots_of table pd) place = found ∙ sym (free_from-table_of sound pd place) ∙ ap (λ t. free_from (slots_of t pd) place) view in
+    let named : key ≡ (get_or (slots_of table pd) (free_from (slots_of table pd) place) unused).key =
+    is ∙ sym (key-table_of domains regions pd slot) ∙ ap (λ t. (get_or (slots_of t pd) slot unused).key) view ∙ ap (λ i. (get_or (slots_of table pd) i unused).key) there in
+    (λ t. record { domain = pd; slot = there t; key = (named t + drawn / 1024 % 255) % 256 })
+
+-- a domain that the table has was added
+pub added_known : (domains : Slots) (regions : Slab Held) (table : Table) (d : ℕ) → table_of domains regions ≡ table → is_added table d ≡ true → is_some (get_or domains d None) ≡ true
+added_known domains regions table d view added = sym (is_added-table_of domains regions d) ∙ ap (λ t. is_added t d) view ∙ added
 
 -- no slot links to a vacant key
 pub same_after_insert : {domains : Slots} {regions after : Slab Held} → IsSound domains regions → (k d i : ℕ) (h : Held) → get regions k ≡ None → Updates regions after k (Some h) → SameElsewhere domains regions after d i

@@ -1,13 +1,14 @@
 -- What the fields of a `Memory` mean, and what they keep.
-use Rattle.std.specs.Prelude.{◌≡◌, ◌≤◌, ℕ, ◌-◌, ◌==◌, if◌then◌else◌, List, [], ◌∷◌, ◌++◌, slice_set, nat_lt, is_none, Bool, false, length, Option, Some, None, map, replicate, slice_index_or, unwrap_or}
+use Rattle.std.specs.Prelude.{◌≡◌, ◌<◌, ◌≤◌, ℕ, IsTrue, ◌+◌, ◌-◌, ◌==◌, if◌then◌else◌, List, [], ◌++◌, slice_set, nat_lt, is_none, Bool, false, length, Option, Some, None, map, drop, replicate, slice_index_or, unwrap_or}
 use Rattle.std.specs.Option.{option_map, option_and_then}
+use Rattle.std.specs.List.{position_or_len}
 use Rattle.slab.specs.Slab.{Slab, get}
 use Rattle.iw_octets.specs.declared.stag.Stag.{Stag}
 use Rattle.iw_memory.specs.declared.slots.Slot.{Slot}
 use Rattle.iw_memory.specs.Region.{Region, IsWithinLimits}
 use Rattle.iw_memory.specs.Held.{Held}
-use Rattle.iw_memory.specs.Part.{Part, SlotState}
-use Rattle.iw_memory.specs.Table.{Table}
+use Rattle.iw_memory.specs.Part.{Part, SlotState, unused}
+use Rattle.iw_memory.specs.Table.{Table, is_added, slots_of}
 
 -- at each domain number, the slots of the domain; nothing where it was not added
 abbrev pub Slots : Type 0
@@ -72,10 +73,20 @@ pub record Keeps (domains : Slots) (regions : Slab Held) (limited : Bool) (nothi
 abbrev pub is_free : Slot → Bool
 is_free s = is_none s.at
 
--- the slots, and a free one where this one is past the last
+-- the slots, and free ones up to this one where it is past the last
 abbrev pub with_room_at : List Slot → ℕ → List Slot
-with_room_at slots i = if nat_lt i (length slots) then slots else slots ++ free ∷ []
+with_room_at slots i = slots ++ replicate (i + 1 - length slots) free
+
+-- the first free slot from this place on, of 1,024, and the lowest where none is free there
+abbrev pub first_free : List Slot → ℕ → ℕ
+first_free slots place = let i = place + position_or_len is_free (drop place slots) in if nat_lt i 1024 then i else position_or_len is_free slots
 
 -- the domain has these slots, and all else is equal
 pub record SetsSlots (old new : Slots) (d : ℕ) (items : List Slot) : Type 0 where
   pub after : new ≡ slice_set old d (Some items)
+
+-- the STag's slot is one of a domain that was added, and has no region
+pub record IsVacant (table : Table) (stag : Stag) : Type 0 where
+  pub added : IsTrue (is_added table stag.domain)
+  pub small : stag.slot < 1024
+  pub none : (slice_index_or (slots_of table stag.domain) stag.slot unused).region ≡ None

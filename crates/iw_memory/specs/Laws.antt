@@ -1,12 +1,12 @@
 -- What may be said of the definitions, beside the calls.
-use Rattle.std.specs.Prelude.{◌≡◌, ◌≢◌, ◌↔◌, ◌⊎◌, ℕ, ◌+◌, ◌<◌, ◌^◌, ◌≤◌, true, false, IsTrue, IsSomeAnd, IfSome, List, [], length, Option, Some, None}
+use Rattle.std.specs.Prelude.{◌≡◌, ◌≢◌, ◌↔◌, ◌⊎◌, ℕ, ◌+◌, ◌*◌, ◌%◌, ◌<◌, ◌^◌, ◌≤◌, true, false, IsTrue, IsSome, IsSomeAnd, IfSome, List, [], ◌∷◌, length, slice_index_or, Option, Some, None}
 use Rattle.std.specs.Option.{option_map}
 use Rattle.iw_octets.specs.declared.stag.Stag.{Stag}
 use Rattle.iw_memory.specs.declared.peer.Peer.{Peer}
 use Rattle.iw_memory.specs.declared.rights.Right.{Right}
 use Rattle.iw_memory.specs.Region.{Region, facts_of, in_domain, is_bound_to, is_in_scope, grants, Spans, region_with, made_invalid, retired_region, IsWithinLimits}
-use Rattle.iw_memory.specs.Part.{Part, own_denial_for, own_invalidate_denial_for, own_domain_refusal, own_store_refusal, own_register_refusal, own_next_stag, own_region, own_changed, own_put, own_invalidated, own_retired, own_deregistered, own_added, own_registered}
-use Rattle.iw_memory.specs.Table.{Table, part_of, slots_of, region_at, octets_at, denial_for, invalidate_denial_for, domain_refusal, store_refusal, register_refusal, next_stag, with_region, put, invalidated, retired, deregistered, added, registered}
+use Rattle.iw_memory.specs.Part.{Part, unused, own_drawn_stag, own_registered_at, own_denial_for, own_invalidate_denial_for, own_domain_refusal, own_store_refusal, own_register_refusal, own_next_stag, own_region, own_changed, own_put, own_invalidated, own_retired, own_deregistered, own_added, own_registered}
+use Rattle.iw_memory.specs.Table.{Table, part_of, slots_of, region_at, octets_at, denial_for, invalidate_denial_for, domain_refusal, store_refusal, register_refusal, next_stag, with_region, put, invalidated, retired, deregistered, added, registered, drawn_stag, registered_at, registered_drawn}
 
 -- a region serves n octets from `to` on for this right to this stream of its domain
 pub record Serves (r : Region) (stream : Option ℕ) (to n : ℕ) (right : Right) : Type 0 where
@@ -70,6 +70,66 @@ pub record RegistersAt (table : Table) (pd : ℕ) (region : Region) : Type 0 whe
 abbrev pub RegisterChangesOneStag : Type 0
 RegisterChangesOneStag = (table : Table) (pd : ℕ) (region : Region) → pd < length table → RegistersAt table pd region
 
+-- ---- STags that are drawn
+
+-- the STag that is drawn named nothing before, and names the new region
+pub record DrawsAt (table : Table) (pd drawn : ℕ) (region : Region) : Type 0 where
+  pub was_free : region_at table (drawn_stag table pd drawn) ≡ None
+  pub named : ChangesOneStag table (registered_drawn table pd drawn region) (drawn_stag table pd drawn) (Some region)
+
+abbrev pub DrawChangesOneStag : Type 0
+DrawChangesOneStag = (table : Table) (pd drawn : ℕ) (region : Region) → pd < length table → DrawsAt table pd drawn region
+
+-- the slot of the STag has the key behind the STag's: it was used under that key last
+pub record WasLast (table : Table) (stag : Stag) : Type 0 where
+  pub key : stag.key < 256
+  pub next : (slice_index_or (slots_of table stag.domain) stag.slot unused).key ≡ (stag.key + 1) % 256
+
+-- an STag whose region was taken out was its slot's last, and the last STag of a slot is not drawn
+pub record DrawsAnother (table : Table) (stag : Stag) : Type 0 where
+  pub taken_out : stag.key < 256 → IsSome (region_at table stag) → WasLast (deregistered table stag) stag
+  pub not_drawn : WasLast table stag → (pd drawn : ℕ) → drawn_stag table pd drawn ≢ stag
+
+abbrev pub LastIsNotDrawn : Type 0
+LastIsNotDrawn = (table : Table) (stag : Stag) → DrawsAnother table stag
+
+-- the STag may be given out: its slot has no region, and was not used under its key last
+pub record IsOpen (table : Table) (stag : Stag) : Type 0 where
+  pub slot : stag.slot < 1024
+  pub key : stag.key < 256
+  pub none : (slice_index_or (slots_of table stag.domain) stag.slot unused).region ≡ None
+  pub next : (slice_index_or (slots_of table stag.domain) stag.slot unused).key < 256
+  pub not_last : (slice_index_or (slots_of table stag.domain) stag.slot unused).key ≢ (stag.key + 1) % 256
+
+-- some number of 32 bits draws this STag
+pub record IsDrawn (table : Table) (stag : Stag) : Type 0 where
+  pub drawn : ℕ
+  pub fits : drawn < 2 ^ 32
+  pub is : drawn_stag table stag.domain drawn ≡ stag
+
+-- each STag that may be given out is drawn by some number
+abbrev pub EachIsDrawn : Type 0
+EachIsDrawn = (table : Table) (stag : Stag) → IsOpen table stag → IsDrawn table stag
+
+-- `register` gives its region the lowest free slot, under the slot's next key
+abbrev pub RegisterTakesTheNext : Type 0
+RegisterTakesTheNext = (table : Table) (pd : ℕ) (region : Region) → registered table pd region ≡ registered_at table (next_stag table pd) region
+
+-- a domain whose slots 0 and 1 have regions, and whose slot 2 was last used under key 4
+abbrev three_slots : Region → Table
+three_slots region = None ∷ Some (record { key = 9; region = Some region } ∷ record { key = 0; region = Some region } ∷ record { key = 5; region = None } ∷ []) ∷ []
+
+-- STags that are drawn there
+pub record KnownDraws (region : Region) : Type 0 where
+  pub behind : drawn_stag (three_slots region) 1 0 ≡ record { domain = 1; slot = 2; key = 5 }
+  pub next_key : drawn_stag (three_slots region) 1 (1024 + 1) ≡ record { domain = 1; slot = 2; key = 6 }
+  pub key_before_last : drawn_stag (three_slots region) 1 (254 * 1024 + 2) ≡ record { domain = 1; slot = 2; key = 3 }
+  pub keys_again : drawn_stag (three_slots region) 1 (255 * 1024 + 2) ≡ record { domain = 1; slot = 2; key = 5 }
+  pub not_made : drawn_stag (three_slots region) 1 (7 * 1024 + 1023) ≡ record { domain = 1; slot = 1023; key = 7 }
+
+abbrev pub DrawsAreKnown : Type 0
+DrawsAreKnown = (region : Region) → KnownDraws region
+
 -- ---- domains
 
 -- the new table is the old one with this part for this domain
@@ -96,6 +156,14 @@ pub record OwnSteps (table : Table) (domain : ℕ) : Type 0 where
 
 abbrev pub DomainsAreApart : Type 0
 DomainsAreApart = (table : Table) (domain : ℕ) → domain < length table → OwnSteps table domain
+
+-- what is drawn for a domain is drawn by its own part, and a registration under it is a step of its own part that leaves the parts of all others
+pub record OwnDraws (table : Table) (domain : ℕ) : Type 0 where
+  pub numbered : (drawn : ℕ) → drawn_stag table domain drawn ≡ own_drawn_stag (part_of table domain) domain drawn
+  pub registers : (drawn : ℕ) (region : Region) → SetsPart table (registered_drawn table domain drawn region) domain (own_registered_at (part_of table domain) (own_drawn_stag (part_of table domain) domain drawn) region)
+
+abbrev pub DrawsAreApart : Type 0
+DrawsAreApart = (table : Table) (domain : ℕ) → domain < length table → OwnDraws table domain
 
 -- ---- streams
 

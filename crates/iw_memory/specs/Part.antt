@@ -1,5 +1,5 @@
 -- What one domain has of the memory. Each call is defined on this part alone, so no domain sees or changes what is another's.
-use Rattle.std.specs.Prelude.{ℕ, ◌+◌, ◌^◌, ◌%◌, ◌==◌, ◌&&◌, nat_lt, nat_le, not, is_some, is_none, List, [], ◌∷◌, ◌++◌, length, map, Option, Some, None, slice_index_or, slice_set, unwrap_or, if◌then◌else◌}
+use Rattle.std.specs.Prelude.{ℕ, ◌+◌, ◌-◌, ◌/◌, ◌^◌, ◌%◌, ◌==◌, ◌&&◌, nat_lt, nat_le, not, is_some, is_none, List, [], ◌∷◌, ◌++◌, length, map, drop, replicate, Option, Some, None, slice_index_or, slice_set, unwrap_or, if◌then◌else◌}
 use Rattle.std.specs.Option.{option_map, option_map_or}
 use Rattle.std.specs.List.{position_or_len}
 use Rattle.iw_octets.specs.declared.stag.Stag.{Stag}
@@ -139,3 +139,28 @@ abbrev pub own_registered : Part → Region → Part
 own_registered part region =
     let slots = own_slots part in let i = free_slot slots in
     Some (slice_set (with_room slots) i (record { key = (slice_index_or slots i unused).key; region = Some region }))
+
+-- ---- an STag that is drawn, by a number of 32 bits
+
+-- the first free slot from this place on, of 1,024: one that was not made yet is free; the lowest where none is free there
+abbrev pub free_from : List SlotState → ℕ → ℕ
+free_from slots place = let i = place + free_slot (drop place slots) in if nat_lt i 1024 then i else free_slot slots
+
+-- the key that is drawn for a slot: one of the 255 that are not its last one
+abbrev pub drawn_key : SlotState → ℕ → ℕ
+drawn_key s drawn = (s.key + drawn / 1024 % 255) % 256
+
+-- the STag that is drawn for the next region of the domain, whose number is pd
+abbrev pub own_drawn_stag : Part → ℕ → ℕ → Stag
+own_drawn_stag part pd drawn =
+    let i = free_from (own_slots part) (drawn % 1024) in
+    record { domain = pd; slot = i; key = drawn_key (slice_index_or (own_slots part) i unused) drawn }
+
+-- the slots, and those up to slot i that were not made yet
+abbrev pub up_to : List SlotState → ℕ → List SlotState
+up_to slots i = slots ++ replicate (i + 1 - length slots) unused
+
+-- a new region stands in the slot that the STag names, under its key
+abbrev pub own_registered_at : Part → Stag → Region → Part
+own_registered_at part stag region =
+    Some (slice_set (up_to (own_slots part) stag.slot) stag.slot (record { key = stag.key; region = Some region }))

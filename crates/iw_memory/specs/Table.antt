@@ -10,7 +10,7 @@ use Rattle.iw_memory.specs.declared.refusal.RegisterRefusal.{RegisterRefusal}
 use Rattle.iw_memory.specs.declared.refusal.StoreRefusal.{StoreRefusal}
 use Rattle.iw_memory.specs.declared.refusal.InvalidateDeny.{InvalidateDeny}
 use Rattle.iw_memory.specs.Region.{Region, in_domain, octets_from}
-use Rattle.iw_memory.specs.Part.{Part, SlotState, own_slots, own_region, own_denial_for, own_invalidate_denial_for, own_domain_refusal, own_register_refusal, own_next_stag, own_store_refusal, own_slot, own_changed, own_put, own_invalidated, own_retired, own_deregistered, own_added, own_registered}
+use Rattle.iw_memory.specs.Part.{Part, SlotState, own_slots, own_region, own_denial_for, own_invalidate_denial_for, own_domain_refusal, own_register_refusal, own_next_stag, own_store_refusal, own_slot, own_changed, own_put, own_invalidated, own_retired, own_deregistered, own_added, own_registered, own_drawn_stag, own_registered_at}
 
 -- at each domain number, that domain's part
 abbrev pub Table : Type 0
@@ -64,6 +64,10 @@ register_refusal table pd base len = own_register_refusal (part_of table pd) bas
 abbrev pub next_stag : Table → ℕ → Stag
 next_stag table pd = own_next_stag (part_of table pd) pd
 
+-- the STag that is drawn for the next region of the domain
+abbrev pub drawn_stag : Table → ℕ → ℕ → Stag
+drawn_stag table pd drawn = own_drawn_stag (part_of table pd) pd drawn
+
 abbrev pub store_refusal : Table → Stag → ℕ → ℕ → Option StoreRefusal
 store_refusal table stag to n = own_store_refusal (part_of table stag.domain) stag to n
 
@@ -101,3 +105,11 @@ added table pd = with_part table pd own_added
 -- the table with a new region in the domain's lowest free slot
 abbrev pub registered : Table → ℕ → Region → Table
 registered table pd region = with_part table pd (own_registered (part_of table pd) region)
+
+-- the table with a new region under this STag
+abbrev pub registered_at : Table → Stag → Region → Table
+registered_at table stag region = with_part table stag.domain (own_registered_at (part_of table stag.domain) stag region)
+
+-- the table with a new region under the STag that is drawn
+abbrev pub registered_drawn : Table → ℕ → ℕ → Region → Table
+registered_drawn table pd drawn region = registered_at table (drawn_stag table pd drawn) region

@@ -1,5 +1,7 @@
 ghost use Rattle.iw_memory.specs.Laws.{PutChangesOneRegion, PutNothing, InvalidateChangesOneRegion};
 ghost use Rattle.iw_memory.specs.Laws.{RegisterChangesOneStag, DeregisterChangesOneStag};
+ghost use Rattle.iw_memory.specs.Laws.{DrawChangesOneStag, LastIsNotDrawn, EachIsDrawn};
+ghost use Rattle.iw_memory.specs.Laws.{DrawsAreApart, RegisterTakesTheNext, DrawsAreKnown};
 ghost use Rattle.iw_memory.specs.Laws.{DeniesRest, DomainsAreApart, KnownScopes};
 ghost use Rattle.iw_memory.specs.Laws.{OutOfScopeLooksForeign, OutOfScopeIsKept, OutOfScopeIsHidden, RetireEndsScope};
 
@@ -26,6 +28,36 @@ pub fn invalidate_changes_one_region()
 /// A registration changes what one STag names, and no other.
 pub fn register_changes_one_stag()
     ensures { RegisterChangesOneStag }
+{}
+
+/// A registration under an STag that is drawn changes what this STag names, which named nothing before, and no other.
+pub fn draw_changes_one_stag()
+    ensures { DrawChangesOneStag }
+{}
+
+/// An STag whose region was taken out is not drawn again before its slot was used under another key.
+pub fn last_is_not_drawn()
+    ensures { LastIsNotDrawn }
+{}
+
+/// Each STag whose slot has no region, and was not used under this key last, is drawn by some number.
+pub fn each_is_drawn()
+    ensures { EachIsDrawn }
+{}
+
+/// What is drawn for a domain depends on its own part alone, and a registration under it changes no other part.
+pub fn draws_are_apart()
+    ensures { DrawsAreApart }
+{}
+
+/// `register` registers under the lowest free slot's next key.
+pub fn register_takes_the_next()
+    ensures { RegisterTakesTheNext }
+{}
+
+/// STags that are drawn, worked by hand.
+pub fn known_draws()
+    ensures { DrawsAreKnown }
 {}
 
 /// A deregistration changes what one STag names, and no other.

@@ -7,8 +7,9 @@
 //! `check` says whether a peer may use the part that an STag, a tagged offset and a length name; `part` and `part_mut`
 //! lend it. The region must be valid, of the stream's domain, and long enough, and must grant the [`Right`]; otherwise a
 //! [`Deny`] says why not. A region may be limited to one stream of its domain (`register_for`): the calls that take a
-//! [`Peer`] (`check_for`, `part_for` and others) know the stream, and `retire` ends the use of its regions. Only
-//! `add_domain`, `register` and `register_for` take memory.
+//! [`Peer`] (`check_for`, `part_for` and others) know the stream, and `retire` ends the use of its regions.
+//! `register_drawn` and `register_drawn_for` give STags that cannot be guessed. Only `add_domain` and the four calls that
+//! register take memory.
 #![tactic(auto)]
 
 mod domain_slots;
@@ -24,9 +25,11 @@ mod slots;
 
 pub use iw_octets::Stag;
 pub use laws::{
-    denies_rest, deregister_changes_one_stag, domains_are_apart, invalidate_changes_one_region,
-    known_scopes, out_of_scope_is_hidden, out_of_scope_is_kept, out_of_scope_looks_foreign,
-    put_changes_one_region, put_nothing, register_changes_one_stag, retire_ends_scope,
+    denies_rest, deregister_changes_one_stag, domains_are_apart, draw_changes_one_stag,
+    draws_are_apart, each_is_drawn, invalidate_changes_one_region, known_draws, known_scopes,
+    last_is_not_drawn, out_of_scope_is_hidden, out_of_scope_is_kept, out_of_scope_looks_foreign,
+    put_changes_one_region, put_nothing, register_changes_one_stag, register_takes_the_next,
+    retire_ends_scope,
 };
 pub use memory::Memory;
 pub use peer::Peer;

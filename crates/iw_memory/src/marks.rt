@@ -1,4 +1,5 @@
 ghost use Rattle.std.specs.Prelude.{◌≡◌, ◌≢◌, ◌==◌, ◌<◌, ◌≤◌, ℕ, if◌then◌else◌, not, position};
+ghost use Rattle.std.specs.Prelude.{length, slice_index_or};
 ghost use Rattle.std.specs.Int.{bit_at};
 ghost use Rattle.iw_memory.specs.Marked.{mark, bit};
 
@@ -31,6 +32,29 @@ impl Marks {
             Some(at) => at * 64 + lowest_bit(self.words[at]),
             None => WORDS * 64,
         }
+    }
+
+    /// The first free slot from this place on, or 1,024 if none is free there.
+    pub(crate) fn first_from(&self, place: usize) -> usize
+        requires { place < 1024 }
+        ensures from { place ≤ result }
+        ensures most { result ≤ 1024 }
+        ensures taken { (i : ℕ) → place ≤ i → i < result → mark self.now.words i ≡ 0 }
+        ensures free { result < 1024 → mark self.now.words result ≡ 1 }
+    {
+        self.from_place(place).lowest()
+    }
+
+    // The marks of the slots from this place on: those before it are as if they were not free.
+    fn from_place(&self, place: usize) -> Marks
+        requires { place < 1024 }
+        ensures before { (i : ℕ) → i < place → mark result.words i ≡ 0 }
+        ensures from { (i : ℕ) → place ≤ i → mark result.words i ≡ mark self.now.words i }
+    {
+        let mut words = self.words;
+        words[place / 64] = bits_from(words[place / 64], place % 64);
+        clear_before(&mut words, place / 64);
+        Marks { words }
     }
 
     /// Keeps whether the slot is free.
@@ -69,5 +93,25 @@ fn with_bit(word: u64, place: usize, set: bool) -> u64
         word | 1 << place
     } else {
         word & !(1 << place)
+    }
+}
+
+// The word with its bits from this place on alone.
+fn bits_from(word: u64, place: usize) -> u64
+    requires { place < 64 }
+    ensures before { (i : ℕ) → i < place → bit_at result i ≡ 0 }
+    ensures from { (i : ℕ) → place ≤ i → i < 64 → bit_at result i ≡ bit_at word i }
+{
+    word & u64::MAX << place
+}
+
+// The words before this place become 0.
+fn clear_before(words: &mut [u64], at: usize)
+    requires { at ≤ length words.old }
+    ensures before { (k : ℕ) → k < at → slice_index_or words.new k 0 ≡ 0 }
+    ensures from { (k : ℕ) → at ≤ k → slice_index_or words.new k 0 ≡ slice_index_or words.old k 0 }
+{
+    for k in 0..at {
+        words[k] = 0;
     }
 }

@@ -5,6 +5,7 @@ ghost use Rattle.std.specs.Result.{result_err, result_ok};
 ghost use Rattle.std.specs.Option.{option_map};
 ghost use Rattle.std.specs.Borrow.{sem};
 
+use crate::domain_slots::MAX_SLOTS;
 use crate::peer::Peer;
 use crate::refusal::{
     Deny, DomainRefusal, InvalidateDeny, NoRegion, RegisterRefusal, StoreRefusal,
@@ -17,9 +18,6 @@ use iw_octets::{MAX_OCTETS, Stag};
 use slab::Slab;
 use std::alloc::{Allocator, Global};
 use std::marker::Model;
-
-// The most regions of a domain.
-const MAX_SLOTS: usize = 1024;
 
 /// The registered regions of an endpoint, by domain. An STag names a region by its domain, its slot there, and a key
 /// that tells the uses of the slot apart.
@@ -50,6 +48,8 @@ impl<A: Allocator> Memory<A> {
     ghost use Rattle.iw_memory.specs.Part.{free_slot};
     ghost use Rattle.iw_memory.specs.Table.{empty, is_added, slots_of, domain_refusal, added};
     ghost use Rattle.iw_memory.specs.Table.{region_at, register_refusal, next_stag, registered, deregistered};
+    ghost use Rattle.iw_memory.specs.Table.{drawn_stag, registered_at, registered_drawn};
+    ghost use Rattle.iw_memory.specs.Inside.{IsVacant};
     ghost use Rattle.iw_memory.specs.Table.{denial, denial_for, octets_at, put, store_refusal};
     ghost use Rattle.iw_memory.specs.Table.{invalidate_denial, invalidate_denial_for, invalidated, retired};
     ghost use Rattle.iw_memory.specs.Laws.{IsWithin, HoldsLimits};
@@ -148,6 +148,105 @@ impl<A: Allocator> Memory<A> {
         self.register_within(pd, Some(stream), base, octets, rights)
     }
 
+    /// Registers octets as [`register`](Self::register) does, under an STag that a number draws, so that no peer guesses it
+    /// (RFC 5042 6.1.1): hand in 32 random bits, others at each call, which nobody can foresee.
+    ///
+    /// The region gets the first free slot from the place on that the low ten bits tell, of the domain's 1,024, or the
+    /// lowest if none is free there. The other bits choose the key, any of the 255 that are not the slot's last one. The
+    /// first such region of a domain may take the memory for all its slots, 1,024 of 24 octets. It takes constant time.
+    ///
+    /// The refusals are those of `register`. An `Err` changes nothing, and gives the octets back.
+    pub fn register_drawn(
+        &mut self,
+        pd: u8,
+        base: u64,
+        octets: Vec<u8, A>,
+        rights: Rights,
+        drawn: u32,
+    ) -> Result<Stag, (RegisterRefusal, Vec<u8, A>)>
+        // The refusal that applies, or out of memory.
+        ensures refused { IfSome (register_refusal self.old pd base (length octets.items))
+            (λ refusal. IfErr result (λ e. e.0 ≡ refusal) × IsErr result) }
+        ensures memory { IfNone (register_refusal self.old pd base (length octets.items))
+            (IfErr result (λ e. e.0 ≡ RegisterRefusal.NoMemory)) }
+        ensures back { IfErr result (λ e. e.1 ≡ octets) }
+        ensures err { OnErr result (self.new ≡ self.old) }
+
+        ensures stag { IfOk result (λ stag. stag ≡ drawn_stag self.old pd drawn) }
+        ensures ok { OnOk result (self.new ≡ registered_drawn self.old pd drawn (new_region base octets.items rights)) }
+    {
+        self.draw_within(pd, None, base, octets, rights, drawn)
+    }
+
+    /// Registers octets as [`register_drawn`](Self::register_drawn) does, for one stream of the domain alone, as
+    /// [`register_for`](Self::register_for) does. The refusals are those of `register`. An `Err` changes nothing, and gives
+    /// the octets back.
+    pub fn register_drawn_for(
+        &mut self,
+        pd: u8,
+        stream: u32,
+        base: u64,
+        octets: Vec<u8, A>,
+        rights: Rights,
+        drawn: u32,
+    ) -> Result<Stag, (RegisterRefusal, Vec<u8, A>)>
+        // The refusal that applies, or out of memory.
+        ensures refused { IfSome (register_refusal self.old pd base (length octets.items))
+            (λ refusal. IfErr result (λ e. e.0 ≡ refusal) × IsErr result) }
+        ensures memory { IfNone (register_refusal self.old pd base (length octets.items))
+            (IfErr result (λ e. e.0 ≡ RegisterRefusal.NoMemory)) }
+        ensures back { IfErr result (λ e. e.1 ≡ octets) }
+        ensures err { OnErr result (self.new ≡ self.old) }
+
+        ensures stag { IfOk result (λ stag. stag ≡ drawn_stag self.old pd drawn) }
+        ensures ok { OnOk result (self.new ≡ registered_drawn self.old pd drawn (bound_region stream base octets.items rights)) }
+    {
+        self.draw_within(pd, Some(stream), base, octets, rights, drawn)
+    }
+
+    // Registers octets under the STag that is drawn, for this stream of the domain, or for all of them.
+    fn draw_within(
+        &mut self,
+        pd: u8,
+        bound: Option<u32>,
+        base: u64,
+        octets: Vec<u8, A>,
+        rights: Rights,
+        drawn: u32,
+    ) -> Result<Stag, (RegisterRefusal, Vec<u8, A>)>
+        ensures refused { IfSome (register_refusal self.old pd base (length octets.items))
+            (λ refusal. IfErr result (λ e. e.0 ≡ refusal) × IsErr result) }
+        ensures memory { IfNone (register_refusal self.old pd base (length octets.items))
+            (IfErr result (λ e. e.0 ≡ RegisterRefusal.NoMemory)) }
+        ensures back { IfErr result (λ e. e.1 ≡ octets) }
+        ensures err { OnErr result (self.new ≡ self.old) }
+        ensures stag { IfOk result (λ stag. stag ≡ drawn_stag self.old pd drawn) }
+        ensures ok { OnOk result (self.new ≡ registered_drawn self.old pd drawn (record (new_region base octets.items rights) { bound = bound })) }
+    {
+        match self.drawn_stag(pd, base, octets.len(), drawn) {
+            Err(refusal) => Err((refusal, octets)),
+            Ok(stag) => self.hold(stag, bound, base, octets, rights),
+        }
+    }
+
+    // The STag that is drawn for the next region of the domain.
+    fn drawn_stag(&self, pd: u8, base: u64, len: usize, drawn: u32) -> Result<Stag, RegisterRefusal>
+        ensures refused { result_err result ≡ register_refusal self.now pd base len }
+        ensures stag { IfOk result (λ stag. stag ≡ drawn_stag self.now pd drawn) }
+        ensures vacant { IfOk result (λ stag. IsVacant self.now stag) }
+        ensures limits { OnOk result (IsWithinLimits base len) }
+    {
+        match self.slot_for(pd, base, len) {
+            Err(refusal) => Err(refusal),
+            Ok(_) => {
+                let slot = self.domains.first_free(pd, (drawn % 1024) as usize);
+                let turn = (drawn / 1024 % 255) as u8;
+                let turned = self.domains.key(pd, slot).wrapping_add(turn);
+                Ok(Stag::new(pd, slot as u16, turned))
+            }
+        }
+    }
+
     // Registers octets for this stream of the domain, or for all of them.
     fn register_within(
         &mut self,
@@ -166,12 +265,25 @@ impl<A: Allocator> Memory<A> {
         ensures stag { IfOk result (λ stag. stag ≡ next_stag self.old pd) }
         ensures ok { OnOk result (self.new ≡ registered self.old pd (record (new_region base octets.items rights) { bound = bound })) }
     {
-        match self.slot_for(pd, base, octets.len()) {
+        match self.next_stag(pd, base, octets.len()) {
             Err(refusal) => Err((refusal, octets)),
-            Ok(slot) => match self.hold(pd, slot, bound, base, octets, rights) {
-                Err(octets) => Err((RegisterRefusal::NoMemory, octets)),
-                Ok(key) => Ok(Stag::new(pd, slot as u16, key)),
-            },
+            Ok(stag) => self.hold(stag, bound, base, octets, rights),
+        }
+    }
+
+    // The STag that the next region of the domain gets.
+    fn next_stag(&self, pd: u8, base: u64, len: usize) -> Result<Stag, RegisterRefusal>
+        ensures refused { result_err result ≡ register_refusal self.now pd base len }
+        ensures stag { IfOk result (λ stag. stag ≡ next_stag self.now pd) }
+        ensures vacant { IfOk result (λ stag. IsVacant self.now stag) }
+        ensures limits { OnOk result (IsWithinLimits base len) }
+    {
+        match self.slot_for(pd, base, len) {
+            Err(refusal) => Err(refusal),
+            Ok(slot) => {
+                let key = self.domains.key(pd, slot);
+                Ok(Stag::new(pd, slot as u16, key))
+            }
         }
     }
 
@@ -197,45 +309,48 @@ impl<A: Allocator> Memory<A> {
         Ok(slot)
     }
 
-    // Stores a region in the domain's lowest free slot, and answers its key. An `Err` changes nothing, and gives the
-    // octets back.
+    // Stores a region under an STag whose slot has none. An `Err` changes nothing, and gives the octets back.
     fn hold(
         &mut self,
-        pd: u8,
-        slot: usize,
+        stag: Stag,
         bound: Option<u32>,
         base: u64,
         octets: Vec<u8, A>,
         rights: Rights,
-    ) -> Result<u8, Vec<u8, A>>
-        requires added { IsTrue (is_added self.old pd) }
-        requires slot { slot ≡ free_slot (slots_of self.old pd) }
-        requires small { slot < 1024 }
+    ) -> Result<Stag, (RegisterRefusal, Vec<u8, A>)>
+        requires vacant { IsVacant self.old stag }
         requires limits { IsWithinLimits base (length octets.items) }
-        ensures key { IfOk result (λ key. key ≡ (next_stag self.old pd).key) }
-        ensures ok { OnOk result (self.new ≡ registered self.old pd (record (new_region base octets.items rights) { bound = bound })) }
-        ensures back { IfErr result (λ e. e ≡ octets) }
+        ensures stag { IfOk result (λ given. given ≡ stag) }
+        ensures ok { OnOk result (self.new ≡ registered_at self.old stag (record (new_region base octets.items rights) { bound = bound })) }
+        ensures memory { IfErr result (λ e. e.0 ≡ RegisterRefusal.NoMemory) }
+        ensures back { IfErr result (λ e. e.1 ≡ octets) }
         ensures err { OnErr result (self.new ≡ self.old) }
     {
+        let pd = stag.domain();
+        let slot = stag.slot();
         if self.regions.reserve(1).is_err() {
-            return Err(octets);
+            return Err((RegisterRefusal::NoMemory, octets));
         }
-        let key = match self.domains.make_room(pd, slot) {
-            Err(_) => return Err(octets),
-            Ok(key) => key,
-        };
+        match self.domains.make_room(pd, slot as usize) {
+            Err(_) => return Err((RegisterRefusal::NoMemory, octets)),
+            Ok(()) => {}
+        }
         let at = self.regions.insert_reserved(Stored {
             domain: pd,
-            slot: slot as u16,
+            slot,
             base,
             octets,
             rights,
             bound,
             valid: true,
         });
-        self.domains.set_slot(pd, slot, Slot { key, at: Some(at) });
+        let held = Slot {
+            key: stag.key(),
+            at: Some(at),
+        };
+        self.domains.set_slot(pd, slot as usize, held);
         self.limited = is_limited(self.limited, bound);
-        Ok(key)
+        Ok(stag)
     }
 
     /// Takes a region out, valid or not, and gives its octets back. An `Err` changes nothing.

@@ -1,9 +1,9 @@
 ghost use Rattle.std.specs.Prelude.{◌≡◌, ◌<◌, ◌≤◌, length, slice_index_or, slice_set};
-ghost use Rattle.std.specs.Prelude.{Some, None, [], option_copied, is_some, IsTrue, IfOk, OnOk, OnErr};
+ghost use Rattle.std.specs.Prelude.{Some, None, [], option_copied, is_some, IsTrue, OnOk, OnErr};
 ghost use Rattle.std.specs.List.{position_or_len};
 ghost use Rattle.std.specs.Option.{option_map};
 ghost use Rattle.iw_memory.specs.Inside.{no_places, all_places, link_of, slots_in};
-ghost use Rattle.iw_memory.specs.Inside.{free, is_free, with_room_at, SetsSlots};
+ghost use Rattle.iw_memory.specs.Inside.{free, is_free, first_free, with_room_at, SetsSlots};
 
 use crate::domain_slots::DomainSlots;
 use iw_octets::Stag;
@@ -90,13 +90,26 @@ impl<A: Allocator> Domains<A> {
         lowest_free_in(&self.places, pd)
     }
 
-    /// Makes the slot of a domain that was added, if it is the one past the last, and tells its key.
-    pub(crate) fn make_room(&mut self, pd: u8, slot: usize) -> Result<u8, AllocError>
+    /// The domain's first slot with no region from this place on, of 1,024, or its lowest if each of those has one.
+    pub(crate) fn first_free(&self, pd: u8, place: usize) -> usize
+        requires { place < 1024 }
+        ensures { result ≡ first_free (slots_in self.now pd) place }
+    {
+        first_free_in(&self.places, pd, place)
+    }
+
+    /// The key of the region in a domain's slot, or of the slot's next one.
+    pub(crate) fn key(&self, pd: u8, slot: usize) -> u8
+        ensures { result ≡ (slice_index_or (slots_in self.now pd) slot free).key }
+    {
+        key_in(&self.places, pd, slot)
+    }
+
+    /// Makes the slots of a domain that was added up to this one, if they are not there. An `Err` changes nothing.
+    pub(crate) fn make_room(&mut self, pd: u8, slot: usize) -> Result<(), AllocError>
         requires added { IsTrue (is_some (slice_index_or self.old pd None)) }
-        requires slot { slot ≤ length (slots_in self.old pd) }
         requires small { slot < 1024 }
         ensures ok { OnOk result (SetsSlots self.old self.new pd (with_room_at (slots_in self.old pd) slot)) }
-        ensures key { IfOk result (λ key. key ≡ (slice_index_or (slots_in self.old pd) slot free).key) }
         ensures err { OnErr result (self.new ≡ self.old) }
     {
         let Some(slots) = &mut self.places[pd as usize] else {
@@ -155,4 +168,23 @@ fn lowest_free_in<A: Allocator>(places: &[Option<DomainSlots<A>>], pd: u8) -> Op
         return None;
     };
     Some(slots.lowest_free())
+}
+
+fn first_free_in<A: Allocator>(places: &[Option<DomainSlots<A>>], pd: u8, place: usize) -> usize
+    requires { place < 1024 }
+    ensures { result ≡ first_free (slots_in (all_places places.now) pd) place }
+{
+    match places.get(pd as usize) {
+        Some(Some(slots)) => slots.first_free(place),
+        _ => place,
+    }
+}
+
+fn key_in<A: Allocator>(places: &[Option<DomainSlots<A>>], pd: u8, slot: usize) -> u8
+    ensures { result ≡ (slice_index_or (slots_in (all_places places.now) pd) slot free).key }
+{
+    match places.get(pd as usize) {
+        Some(Some(slots)) => slots.key(slot),
+        _ => 0,
+    }
 }
