@@ -7,6 +7,7 @@ use iw_octets::Octets;
 use std::alloc::{AllocError, Allocator, Global};
 use std::collections::VecDeque;
 use std::marker::Model;
+use std::mem::swap;
 
 // How many buffers a pool may hold.
 const MAX_POOL: usize = 1024;
@@ -79,6 +80,16 @@ impl<A: Allocator> SharedQueue<A> {
         ensures after { self.new ≡ drop 1 self.old }
     {
         self.buffers.pop_front()
+    }
+
+    /// Exchanges the buffers of the pool with these, of which there are at most 1,024. It allocates nothing.
+    pub fn exchange(&mut self, buffers: &mut VecDeque<Octets<A>, A>)
+        requires { length buffers.old.items ≤ 1024 }
+        ensures pool { self.new ≡ buffers.old.items }
+        ensures taken { buffers.new.items ≡ self.old }
+        ensures few { length buffers.new.items ≤ 1024 }
+    {
+        swap(&mut *self.buffers, buffers);
     }
 
     /// How many buffers the pool has: at most 1,024.
