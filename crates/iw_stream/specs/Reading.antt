@@ -31,6 +31,12 @@ Reads old new before after (Came n) = (0 < n) × (n ≤ min MOST_READ (room_ahea
 Reads old new before after End = (new ≡ old) × Consumes before after [] × IsAtEnd after
 Reads old new before after Full = (new ≡ old) × Keeps before after × (room_ahead old ≡ 0)
 
+-- how many octets came by a read
+abbrev pub octets_read : Intake → ℕ
+octets_read (Came n) = n
+octets_read End = 0
+octets_read Full = 0
+
 -- ---- the same of a stream
 -- the number of the octet past the last that came
 abbrev pub number_past : StreamState → ℕ

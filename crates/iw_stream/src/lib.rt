@@ -6,9 +6,9 @@
 //!
 //! 1. posts receive buffers (`post_recv`) and, once the stream is open, messages and Reads (`post`);
 //! 2. sends what `emit` appends, until it answers [`Emission::Nothing`];
-//! 3. reads octets from the connection right to where they are to stand (`read_from`; with a call of its own, as C does,
-//!    `lend_place` and `came`), or hands in octets that came, with their sequence number (`deliver`; `first_number` sets that
-//!    of the peer's first octet), in any order;
+//! 3. reads octets from the connection right to where they are to stand (`read_from`, or `read_some` for less; with a call of
+//!    its own, as C does, `lend_place` and `came`), or hands in octets that came, with their sequence number (`deliver`;
+//!    `first_number` sets that of the peer's first octet), in any order;
 //! 4. calls `work` until it answers [`Step::Idle`]: each call does one step and says what it did. If it answers
 //!    [`Step::Asked`], the owner accepts or rejects the peer's Request.
 //!
@@ -19,9 +19,9 @@
 //! is left to do.
 //!
 //! After 3 and 4 there may be more to emit. The regions that the peer may use are an `iw_memory::Memory`, lent to each call
-//! of `work`, and of `emit`, which answers the peer's Reads from them. No call but `read_from` does input or output. `post`,
-//! `post_recv`, `deliver`, `read_from`, `lend_place` and `emit` may be out of memory, and so may `work` when it judges a frame
-//! before its turn; such a call changes nothing.
+//! of `work`, and of `emit`, which answers the peer's Reads from them. No call but `read_from` and `read_some` does input or
+//! output. `post`, `post_recv`, `deliver`, `read_from`, `read_some`, `lend_place` and `emit` may be out of memory, and so may
+//! `work` when it judges a frame before its turn; such a call changes nothing.
 //!
 //! # Example
 //!

@@ -1,8 +1,8 @@
 //! Octets that are read in place: to where they stand past the last that came.
-ghost use Rattle.std.specs.Prelude.{◌≡◌, ◌<◌, ◌≤◌, take, [], IfOk, OnErr};
+ghost use Rattle.std.specs.Prelude.{◌≡◌, ◌<◌, ◌≤◌, max, take, [], IfOk, OnErr};
 ghost use Rattle.std.specs.Io.KnownBytes.{Consumes, IsAtEnd, Keeps};
 ghost use Rattle.iw_ranges.specs.Arrived.{IsReadyFor};
-ghost use Rattle.iw_stream.specs.Reading.{Brings, Reads, room_ahead};
+ghost use Rattle.iw_stream.specs.Reading.{Brings, Reads, octets_read, room_ahead};
 
 use super::Incoming;
 use crate::intake::{Intake, MOST_READ};
@@ -61,15 +61,16 @@ impl<A: Allocator> Incoming<A> {
         (self.islands.floor() + WINDOW - self.islands.end()) as usize
     }
 
-    /// One read of at most 65,536 octets, and no more than the window has room for, to where they are to stand. An `Err`
-    /// means out of memory, or that the read failed.
-    pub(crate) fn read_from<R: Read>(&mut self, from: &mut R) -> io::Result<Intake>
+    /// One read of at most `most` octets, 1 if that is 0, at most 65,536, and no more than the window has room for, to where
+    /// they are to stand. An `Err` means out of memory, or that the read failed.
+    pub(crate) fn read_some<R: Read>(&mut self, from: &mut R, most: usize) -> io::Result<Intake>
+        ensures few { IfOk result (λ intake. octets_read intake ≤ max most 1) }
         ensures ok { IfOk result (λ intake. Reads self.old.arrived self.new.arrived (R.remaining from.old) (R.remaining from.new) intake) }
         ensures err { OnErr result ((self.new.arrived ≡ self.old.arrived) × Keeps (R.remaining from.old) (R.remaining from.new)) }
         ensures early { self.new.early ≡ self.old.early }
         ensures same { IsSameStart self.old self.new }
     {
-        let n = self.room().min(MOST_READ);
+        let n = self.room().min(most.max(1)).min(MOST_READ);
         if n == 0 || !self.islands.make_room(n)? {
             return Ok(Intake::Full);
         }

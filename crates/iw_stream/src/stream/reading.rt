@@ -1,29 +1,31 @@
 //! Octets that are read from the connection in place.
-ghost use Rattle.std.specs.Prelude.{◌≡◌, ◌<◌, ◌≤◌, length, List, ℕ, false, true, IfOk, OnErr};
+ghost use Rattle.std.specs.Prelude.{◌≡◌, ◌<◌, ◌≤◌, max, length, List, ℕ, false, true, IfOk, OnErr};
 ghost use Rattle.std.specs.Io.KnownBytes.{Consumes, IsAtEnd, Keeps};
 
 use super::Stream;
-use crate::intake::Intake;
+use crate::intake::{Intake, MOST_READ};
 use std::alloc::Allocator;
 use std::io::{self, Read};
 
-// How many octets one read at a stream that has ended takes.
+// How many octets one read at a stream that has ended takes at most.
 const DROPPED_OCTETS: usize = 4096;
 
-// One read whose octets go nowhere.
-fn read_past<R: Read>(from: &mut R) -> io::Result<usize>
-    ensures few { IfOk result (λ got. got ≤ 4096) }
+// One read of at most `n` octets, which go nowhere.
+fn read_past<R: Read>(from: &mut R, n: usize) -> io::Result<usize>
+    requires some { 0 < n }
+    requires most { n ≤ 4096 }
+    ensures few { IfOk result (λ got. got ≤ n) }
     ensures given { IfOk result (λ got. (octets : List ℕ) × (length octets ≡ got) × Consumes (R.remaining from.old) (R.remaining from.new) octets) }
     ensures end { IfOk result (λ got. got ≡ 0 → IsAtEnd (R.remaining from.new)) }
     ensures err { OnErr result (Keeps (R.remaining from.old) (R.remaining from.new)) }
 {
     let mut octets = [0u8; DROPPED_OCTETS];
-    from.read(&mut octets)
+    from.read(&mut octets[..n])
 }
 
 impl<A: Allocator> Stream<A> {
     ghost use Rattle.iw_stream.specs.Stream.{ended};
-    ghost use Rattle.iw_stream.specs.Reading.{IsRead};
+    ghost use Rattle.iw_stream.specs.Reading.{IsRead, octets_read};
 
     /// Reads once from the connection, right to where the octets are to stand: at most 65,536 octets, and no more than the
     /// window has room for. It is one delivery ([`Stream::deliver`]) of what was read, past the last octet that came, and
@@ -35,19 +37,30 @@ impl<A: Allocator> Stream<A> {
         ensures ok { IfOk result (λ intake. IsRead self.old self.new (R.remaining from.old) (R.remaining from.new) intake) }
         ensures err { OnErr result ((self.new ≡ self.old) × Keeps (R.remaining from.old) (R.remaining from.new)) }
     {
-        if self.ending.has_ended() {
-            return self.read_ended(from);
-        }
-        self.read_running(from)
+        self.read_some(from, MOST_READ)
     }
 
-    // The same of a stream that has ended.
-    fn read_ended<R: Read>(&mut self, from: &mut R) -> io::Result<Intake>
-        requires { ended self.old ≡ true }
+    /// As [`Stream::read_from`], but at most `most` octets are read, 1 if `most` is 0, and memory is taken for that many
+    /// alone: none for more than the stream then keeps of what came.
+    pub fn read_some<R: Read>(&mut self, from: &mut R, most: usize) -> io::Result<Intake>
+        ensures few { IfOk result (λ intake. octets_read intake ≤ max most 1) }
         ensures ok { IfOk result (λ intake. IsRead self.old self.new (R.remaining from.old) (R.remaining from.new) intake) }
         ensures err { OnErr result ((self.new ≡ self.old) × Keeps (R.remaining from.old) (R.remaining from.new)) }
     {
-        let got = read_past(from)?;
+        if self.ending.has_ended() {
+            return self.read_ended(from, most);
+        }
+        self.read_running(from, most)
+    }
+
+    // The same of a stream that has ended.
+    fn read_ended<R: Read>(&mut self, from: &mut R, most: usize) -> io::Result<Intake>
+        requires { ended self.old ≡ true }
+        ensures few { IfOk result (λ intake. octets_read intake ≤ max most 1) }
+        ensures ok { IfOk result (λ intake. IsRead self.old self.new (R.remaining from.old) (R.remaining from.new) intake) }
+        ensures err { OnErr result ((self.new ≡ self.old) × Keeps (R.remaining from.old) (R.remaining from.new)) }
+    {
+        let got = read_past(from, most.max(1).min(DROPPED_OCTETS))?;
         if got == 0 {
             return Ok(Intake::End);
         }
@@ -56,12 +69,13 @@ impl<A: Allocator> Stream<A> {
     }
 
     // The same of a stream that runs.
-    fn read_running<R: Read>(&mut self, from: &mut R) -> io::Result<Intake>
+    fn read_running<R: Read>(&mut self, from: &mut R, most: usize) -> io::Result<Intake>
         requires { ended self.old ≡ false }
+        ensures few { IfOk result (λ intake. octets_read intake ≤ max most 1) }
         ensures ok { IfOk result (λ intake. IsRead self.old self.new (R.remaining from.old) (R.remaining from.new) intake) }
         ensures err { OnErr result ((self.new ≡ self.old) × Keeps (R.remaining from.old) (R.remaining from.new)) }
     {
-        match self.arrived.read_from(from) {
+        match self.arrived.read_some(from, most) {
             Ok(Intake::Came(got)) => {
                 self.answered = true;
                 Ok(Intake::Came(got))

@@ -2,7 +2,7 @@ use Rattle.std.proofs.Common.{◌≡◌, ◌+◌, ◌-◌, ◌<◌, ◌∙◌, a
 use Rattle.iw_locate.specs.Unsearched.{with_octets}
 use Rattle.iw_stream.specs.Incoming.{coming_of}
 use Rattle.iw_stream.proofs.InPlace.{tracked_in_place}
-use Rattle.iw_stream.proofs.incoming.Incoming.read_from.Goals as goal
+use Rattle.iw_stream.proofs.incoming.Incoming.read_some.Goals as goal
 
 pub overflow_add-place : goal.overflow_add-place
 overflow_add-place g c =
