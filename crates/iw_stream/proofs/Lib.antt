@@ -27,3 +27,4 @@ pub mod Most
 pub mod Passing
 pub mod InPlace
 pub mod TakenIn
+pub mod Bound

@@ -11,3 +11,4 @@ pub mod Kept
 pub mod Emitting
 pub mod Fields
 pub mod Reading
+pub mod Pooling

@@ -10,6 +10,7 @@ mod judgement;
 mod lending;
 mod reading;
 mod room;
+mod sharing;
 mod tasks;
 mod turns;
 
