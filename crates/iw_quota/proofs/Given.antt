@@ -1,0 +1,39 @@
+-- `give_back` at a call: what it is handed, and what a caller has of it. Assumes `Logic`.
+use Rattle.std.proofs.Common.{◌≡◌, ℕ, ◌^◌, ◌<◌, List, [], ◌∷◌, refl, ap, w64}
+use seplogic.Ra.Ura.{Ura}
+use mir.Val.{Val, vunit, vint, vptr}
+use base.Logic.{SProp, ent, sep, guard, id⊢}
+use base.Fml.{Lft, Share, ftrue, fsep, flft}
+use prog.Memory.{Memory}
+use prog.Routine.{Routine}
+use types.Logic.{Logic, sem}
+use contract.Monad.{Fun}
+use types.Kit.{‵, ◌⊛◌, some, later, ◌$◌, ◌∵◌, !, qed, move, keep, use1, split, join, pick, fjoin, feq_i, feq_l, flt_i, check, await, updating, now as at_once, done}
+use denote.Builtin.{unit}
+use denote.Steps.{nothing, only}
+use denote.Triple.Statement.{Contract}
+use denote.Triple.Spec.{triple_of}
+use Rattle.iw_quota.proofs.Cells.{kept}
+use Rattle.iw_quota.specs.contracts.give_back as GB
+
+module _ {M : Type 1} {𝓤 : Ura M} (𝓛 : Logic 𝓤) (at_mem : Memory → SProp 𝓤) (run : Routine → Fun 𝓤) where
+  abbrev pub Give : Contract 𝓤
+  Give = triple_of 𝓛 GB.signature (GB.spec 𝓛 at_mem run)
+
+  abbrev pub at_give : Lft → Share → ℕ × ℕ → ℕ → Give.Ghost
+  at_give κ q c n = (((κ, tt), (q, tt), tt, (record { ref_ptr = c; now = record { value = tt } }, (n, tt)), (vptr c.0 c.1 ∷ [], (vint w64 n ∷ [], tt))), tt)
+
+module _ {M : Type 1} {𝓤 : Ura M} (𝓛 : Logic 𝓤) (at_mem : Memory → SProp 𝓤) (run : Routine → Fun 𝓤) (κ : Lft) (q : Share) (c : ℕ × ℕ) (n : ℕ) where
+  open 𝓛 use {H, A}
+
+  pub Give-goes : n < 2 ^ 64 → ent 𝓤 (sep 𝓤 (sem 𝓛 (kept κ c)) (A.lft κ q)) ((Give 𝓛 at_mem run).pre (at_give 𝓛 at_mem run κ q c n))
+  Give-goes fn =
+      qed 𝓛 (‵ (kept κ c) ∷ ‵ (flft κ q) ∷ []) ∵ nothing ! $ flt_i ! n (2 ^ 64) fn $ feq_i ! (List Val) (vint w64 n ∷ []) (vint w64 n ∷ []) refl $ fjoin ! $ fjoin ! $
+      move ! (1 ∷ []) $ feq_i ! (List Val) (vptr c.0 c.1 ∷ []) (vptr c.0 c.1 ∷ []) refl $ fjoin ! $ fjoin ! $
+      nothing ! $ move ! (2 ∷ []) $ join ! $ join ! $ nothing ! $ move ! (1 ∷ []) $ join ! $ done !
+
+  pub Give-gives : (v : Val) → ent 𝓤 ((Give 𝓛 at_mem run).post (at_give 𝓛 at_mem run κ q c n) v) (H.⇛ (guard 𝓤 (v ≡ vunit) (A.lft κ q)))
+  Give-gives v =
+      qed 𝓛 (types.Kit.raw ((Give 𝓛 at_mem run).post (at_give 𝓛 at_mem run κ q c n) v) ∷ []) ∵ updating ! $
+      use1 𝓛 (later (some (λ (r : Unit {0}). ((‵ (flft κ q) ⊛ ‵ ftrue) ⊛ ‵ (unit.own_val r (v ∷ []))) ⊛ some (λ (ws : Unit {0} × (Unit {0} × Unit {0})). ‵ (fsep ftrue (fsep ftrue ftrue)) ⊛ ‵ ftrue)))) (id⊢ 𝓤 _) $ await ! tt $ pick ! (λ r.
+      split ! $ split ! $ move ! (1 ∷ []) $ feq_l ! (λ e. split ! $ at_once ! $ check ! (ap only e) $ keep ! (0 ∷ []) $ done !))
