@@ -10,3 +10,4 @@ pub mod Limited
 pub mod Copied
 pub mod Emptying
 pub mod Settling
+pub mod Drawing

@@ -15,6 +15,7 @@ ghost use Rattle.iw_stream.specs.Work.{IsTry, task};
 ghost use Rattle.iw_endpoint.specs.Endpoint.{pool_refusal_of};
 
 mod closing;
+mod drawing;
 mod lending;
 mod limiting;
 mod next;

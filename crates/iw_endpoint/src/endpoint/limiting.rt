@@ -45,7 +45,7 @@ impl<A: Allocator> Endpoint<A> {
     }
 
     // The domain of a stream that runs; else why nothing is registered for the stream.
-    fn domain_running(&self, number: u32) -> Result<u8, CallRefusal<LimitRefusal>>
+    pub(super) fn domain_running(&self, number: u32) -> Result<u8, CallRefusal<LimitRefusal>>
         ensures refused { result_err result ≡ running_refusal self.now number }
         ensures domain { IfOk result (λ pd. pd ≡ (stream_at self.now number).domain) }
     {
