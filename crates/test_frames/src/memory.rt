@@ -92,6 +92,87 @@ fn a_region_is_denied_and_ends(rt: HostRuntime) -> Result<(), Fail> {
     Ok(())
 }
 
+/// A memory with domain 1.
+fn memory_with_domain(alloc: Global) -> Result<Memory, Fail> {
+    let mut memory = Memory::new(alloc);
+    memory.add_domain(1)?;
+    Ok(memory)
+}
+
+/// Registers 8 octets in domain 1 under an STag that this number draws.
+fn drawn(
+    alloc: Global,
+    memory: &mut Memory,
+    number: u32,
+) -> Result<Result<u32, RegisterRefusal>, Fail> {
+    let octets = vec![in alloc; 0; 8]?;
+    match memory.register_drawn(1, 0, octets, WRITE, number) {
+        Ok(stag) => Ok(Ok(stag.into())),
+        Err((refusal, _octets)) => Ok(Err(refusal)),
+    }
+}
+
+#[test]
+fn a_number_draws_the_slot_and_the_key(rt: HostRuntime) -> Result<(), Fail> {
+    let mut memory = memory_with_domain(rt.alloc())?;
+    // Slot 1,023, which was not made yet; then none is free from there on.
+    assert_eq!(rt; drawn(rt.alloc(), &mut memory, 1023)?, Ok(0x0103_ff00));
+    assert_eq!(rt; drawn(rt.alloc(), &mut memory, 1023)?, Ok(0x0100_0000));
+    // Slot 0 has a region. There are 255 keys.
+    assert_eq!(rt;
+        drawn(rt.alloc(), &mut memory, 254 * 1024)?,
+        Ok(0x0100_01fe)
+    );
+    assert_eq!(rt;
+        drawn(rt.alloc(), &mut memory, 255 * 1024 + 5)?,
+        Ok(0x0100_0500)
+    );
+    // `register` takes the lowest free slot and its next key.
+    assert!(rt; memory.deregister(Stag::from(0x0100_01fe)).is_ok());
+    assert_eq!(rt; registered(rt.alloc(), &mut memory, 0)?, Ok(0x0100_01ff));
+    assert_eq!(rt; registered(rt.alloc(), &mut memory, 0)?, Ok(0x0100_0200));
+    Ok(())
+}
+
+#[test]
+fn the_key_that_a_slot_had_last_is_not_drawn(rt: HostRuntime) -> Result<(), Fail> {
+    let mut memory = memory_with_domain(rt.alloc())?;
+    assert_eq!(rt;
+        drawn(rt.alloc(), &mut memory, 9 * 1024 + 7)?,
+        Ok(0x0100_0709)
+    );
+    assert!(rt; memory.deregister(Stag::from(0x0100_0709)).is_ok());
+    assert_eq!(rt;
+        drawn(rt.alloc(), &mut memory, 254 * 1024 + 7)?,
+        Ok(0x0100_0708)
+    );
+    assert!(rt; memory.deregister(Stag::from(0x0100_0708)).is_ok());
+    assert_eq!(rt;
+        drawn(rt.alloc(), &mut memory, 255 * 1024 + 7)?,
+        Ok(0x0100_0709)
+    );
+    Ok(())
+}
+
+#[test]
+fn an_stag_that_is_drawn_serves_one_stream(rt: HostRuntime) -> Result<(), Fail> {
+    let mut memory = memory_with_domain(rt.alloc())?;
+    let octets = vec![in rt.alloc(); 0; 8]?;
+    let Ok(stag) = memory.register_drawn_for(1, 7, 0, octets, WRITE, 3 * 1024 + 4) else {
+        return Err("not registered".into());
+    };
+    assert_eq!(rt; u32::from(stag), 0x0100_0403);
+    assert_eq!(rt;
+        memory.check_for(stream(7), stag, 0, 1, Right::Write),
+        Ok(())
+    );
+    assert_eq!(rt;
+        memory.check_for(stream(8), stag, 0, 1, Right::Write),
+        Err(Deny::NotAssociated)
+    );
+    Ok(())
+}
+
 /// The stream of this number in domain 1.
 fn stream(number: u32) -> Peer {
     Peer {

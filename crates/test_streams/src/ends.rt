@@ -99,10 +99,26 @@ impl<'h> Ends<'h> {
         Ok(limited(self.endpoint.register_for(number, base, octets, ALL)))
     }
 
+    /// The same under an STag that this number draws.
+    pub(crate) fn register_drawn_for(
+        &mut self,
+        number: u32,
+        drawn: u32,
+        left: u64,
+    ) -> Result<Answer, AllocError> {
+        let octets = vec![in self.heap; 0u8; 8]?;
+        self.heap.refuse_after(left);
+        Ok(limited(
+            self.endpoint
+                .register_drawn_for(number, 0, octets, ALL, drawn),
+        ))
+    }
+
     /// Makes a call for the stream of a number. What its peer does, it does with the first region of domain 1.
     pub(crate) fn call(&mut self, call: &str, number: u32) -> Result<Answer, AllocError> {
         match call {
             "register_for" => self.register_for(number, 0, u64::MAX),
+            "register_drawn_for" => self.register_drawn_for(number, 0, u64::MAX),
             "register_past_the_end" => self.register_for(number, u64::MAX, u64::MAX),
             "write" => self.write(number),
             "read" => self.read(number),

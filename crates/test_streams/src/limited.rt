@@ -59,6 +59,22 @@ bound 0 none
 register_for 0 ok
 bound 0 0";
 
+// The number 0 draws the STag that `register_for` gives first.
+const DRAWN: &str = "register_drawn_for 16 NoSuchStream
+break_link 5 ok
+register_drawn_for 5 Ended
+register_drawn_for 0 ok
+bound 0 0
+write 1 1,1,2
+write 0 placed
+octets 0 written
+break_link 0 ok
+close 0 ok
+bound 0 invalid
+deregister 0 ok
+register_drawn_for 4 ok
+bound 0 none";
+
 // Makes the call of a line, and says whether it answered so.
 fn answers(ends: &mut Ends<'_>, line: &str) -> Result<bool, Fail> {
     let (call, rest) = line.split_once(' ').ok_or("a call")?;
@@ -80,9 +96,12 @@ fn answered(alloc: Global, lines: &str) -> Result<usize, Fail> {
 }
 
 // Refuses each request for memory of the call in turn, until none is refused. Returns how many were.
-fn registered(ends: &mut Ends<'_>, heap: Heap<'_>) -> Result<u64, Fail> {
+fn registered(ends: &mut Ends<'_>, heap: Heap<'_>, drawn: Option<u32>) -> Result<u64, Fail> {
     for n in 0..100u64 {
-        let answer = ends.register_for(0, 0, n)?;
+        let answer = match drawn {
+            Some(drawn) => ends.register_drawn_for(0, drawn, n)?,
+            None => ends.register_for(0, 0, n)?,
+        };
         if !heap.has_refused() {
             return if answer.is_told("ok") {
                 Ok(n)
@@ -97,10 +116,10 @@ fn registered(ends: &mut Ends<'_>, heap: Heap<'_>) -> Result<u64, Fail> {
     Err("requests without end".into())
 }
 
-fn refused(alloc: Global) -> Result<u64, Fail> {
+fn refused(alloc: Global, drawn: Option<u32>) -> Result<u64, Fail> {
     let heap = FailsAt::new(alloc, u64::MAX);
     let mut ends = Ends::new(&heap)?;
-    registered(&mut ends, &heap)
+    registered(&mut ends, &heap, drawn)
 }
 
 #[test]
@@ -116,6 +135,12 @@ fn a_closed_stream_loses_its_regions(rt: HostRuntime) -> Result<(), Fail> {
 }
 
 #[test]
+fn a_drawn_stag_serves_its_stream(rt: HostRuntime) -> Result<(), Fail> {
+    assert_eq!(rt; answered(rt.alloc(), DRAWN)?, DRAWN.lines().count());
+    Ok(())
+}
+
+#[test]
 fn refusals_come_in_order(rt: HostRuntime) -> Result<(), Fail> {
     assert_eq!(rt; answered(rt.alloc(), REFUSED)?, REFUSED.lines().count());
     Ok(())
@@ -123,6 +148,7 @@ fn refusals_come_in_order(rt: HostRuntime) -> Result<(), Fail> {
 
 #[test]
 fn a_registration_without_memory_changes_nothing(rt: HostRuntime) -> Result<(), Fail> {
-    assert!(rt; refused(rt.alloc())? > 0);
+    assert!(rt; refused(rt.alloc(), None)? > 0);
+    assert!(rt; refused(rt.alloc(), Some(1023))? > 0);
     Ok(())
 }
