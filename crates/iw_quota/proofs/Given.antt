@@ -20,20 +20,21 @@ module _ {M : Type 1} {𝓤 : Ura M} (𝓛 : Logic 𝓤) (at_mem : Memory → SP
   abbrev pub Give : Contract 𝓤
   Give = triple_of 𝓛 GB.signature (GB.spec 𝓛 at_mem run)
 
-  abbrev pub at_give : Lft → Share → ℕ × ℕ → ℕ → Give.Ghost
-  at_give κ q c n = (((κ, tt), (q, tt), tt, (record { ref_ptr = c; now = record { value = tt } }, (n, tt)), (vptr c.0 c.1 ∷ [], (vint w64 n ∷ [], tt))), tt)
+  abbrev pub at_give : Lft → Share → ℕ × ℕ → ℕ → ℕ → ℕ → Give.Ghost
+  at_give κ q c from to size = (((κ, tt), (q, tt), tt, (record { ref_ptr = c; now = record { value = tt } }, (from, (to, (size, tt)))), (vptr c.0 c.1 ∷ [], (vint w64 from ∷ [], (vint w64 to ∷ [], (vint w64 size ∷ [], tt))))), tt)
 
-module _ {M : Type 1} {𝓤 : Ura M} (𝓛 : Logic 𝓤) (at_mem : Memory → SProp 𝓤) (run : Routine → Fun 𝓤) (κ : Lft) (q : Share) (c : ℕ × ℕ) (n : ℕ) where
+module _ {M : Type 1} {𝓤 : Ura M} (𝓛 : Logic 𝓤) (at_mem : Memory → SProp 𝓤) (run : Routine → Fun 𝓤) (κ : Lft) (q : Share) (c : ℕ × ℕ) (from to size : ℕ) where
   open 𝓛 use {H, A}
 
-  pub Give-goes : n < 2 ^ 64 → ent 𝓤 (sep 𝓤 (sem 𝓛 (kept κ c)) (A.lft κ q)) ((Give 𝓛 at_mem run).pre (at_give 𝓛 at_mem run κ q c n))
-  Give-goes fn =
-      qed 𝓛 (‵ (kept κ c) ∷ ‵ (flft κ q) ∷ []) ∵ nothing ! $ flt_i ! n (2 ^ 64) fn $ feq_i ! (List Val) (vint w64 n ∷ []) (vint w64 n ∷ []) refl $ fjoin ! $ fjoin ! $
+  pub Give-goes : from < 2 ^ 64 → to < 2 ^ 64 → size < 2 ^ 64 → ent 𝓤 (sep 𝓤 (sem 𝓛 (kept κ c)) (A.lft κ q)) ((Give 𝓛 at_mem run).pre (at_give 𝓛 at_mem run κ q c from to size))
+  Give-goes ff ft fs =
+      qed 𝓛 (‵ (kept κ c) ∷ ‵ (flft κ q) ∷ []) ∵ nothing ! $ flt_i ! size (2 ^ 64) fs $ feq_i ! (List Val) (vint w64 size ∷ []) (vint w64 size ∷ []) refl $ fjoin ! $ fjoin ! $
+      flt_i ! to (2 ^ 64) ft $ feq_i ! (List Val) (vint w64 to ∷ []) (vint w64 to ∷ []) refl $ fjoin ! $ fjoin ! $ flt_i ! from (2 ^ 64) ff $ feq_i ! (List Val) (vint w64 from ∷ []) (vint w64 from ∷ []) refl $ fjoin ! $ fjoin ! $
       move ! (1 ∷ []) $ feq_i ! (List Val) (vptr c.0 c.1 ∷ []) (vptr c.0 c.1 ∷ []) refl $ fjoin ! $ fjoin ! $
       nothing ! $ move ! (2 ∷ []) $ join ! $ join ! $ nothing ! $ move ! (1 ∷ []) $ join ! $ done !
 
-  pub Give-gives : (v : Val) → ent 𝓤 ((Give 𝓛 at_mem run).post (at_give 𝓛 at_mem run κ q c n) v) (H.⇛ (guard 𝓤 (v ≡ vunit) (A.lft κ q)))
+  pub Give-gives : (v : Val) → ent 𝓤 ((Give 𝓛 at_mem run).post (at_give 𝓛 at_mem run κ q c from to size) v) (H.⇛ (guard 𝓤 (v ≡ vunit) (A.lft κ q)))
   Give-gives v =
-      qed 𝓛 (types.Kit.raw ((Give 𝓛 at_mem run).post (at_give 𝓛 at_mem run κ q c n) v) ∷ []) ∵ updating ! $
-      use1 𝓛 (later (some (λ (r : Unit {0}). ((‵ (flft κ q) ⊛ ‵ ftrue) ⊛ ‵ (unit.own_val r (v ∷ []))) ⊛ some (λ (ws : Unit {0} × (Unit {0} × Unit {0})). ‵ (fsep ftrue (fsep ftrue ftrue)) ⊛ ‵ ftrue)))) (id⊢ 𝓤 _) $ await ! tt $ pick ! (λ r.
+      qed 𝓛 (types.Kit.raw ((Give 𝓛 at_mem run).post (at_give 𝓛 at_mem run κ q c from to size) v) ∷ []) ∵ updating ! $
+      use1 𝓛 (later (some (λ (r : Unit {0}). ((‵ (flft κ q) ⊛ ‵ ftrue) ⊛ ‵ (unit.own_val r (v ∷ []))) ⊛ some (λ (ws : Unit {0} × (Unit {0} × (Unit {0} × (Unit {0} × Unit {0})))). ‵ (fsep ftrue (fsep ftrue (fsep ftrue (fsep ftrue ftrue)))) ⊛ ‵ ftrue)))) (id⊢ 𝓤 _) $ await ! tt $ pick ! (λ r.
       split ! $ split ! $ move ! (1 ∷ []) $ feq_l ! (λ e. split ! $ at_once ! $ check ! (ap only e) $ keep ! (0 ∷ []) $ done !))

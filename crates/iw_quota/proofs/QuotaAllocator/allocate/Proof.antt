@@ -1,5 +1,5 @@
 -- It refuses, or answers what the inner allocator answers; a block that this one refuses counts no more. Assumes `Logic`.
-use Rattle.std.proofs.Common.{Bool, ◌≡◌, ℕ, ◌+◌, ◌^◌, ◌<◌, true, false, List, [], ◌∷◌, Ok, Err, refl, w64, Bor}
+use Rattle.std.proofs.Common.{Bool, ◌≡◌, ℕ, ◌+◌, ◌^◌, ◌<◌, true, false, List, [], ◌∷◌, Ok, Err, refl, lit<, w64, Bor}
 use mir.Val.{vunit}
 use mir.Syntax.{Body}
 use prog.Wp.{Env, Wp, after_seq, at_return}
@@ -114,9 +114,9 @@ module _ (Z : Al) {M : Type 1} {𝓤 : Ura M} (𝓛 : Logic 𝓤) (at_mem : Memo
         let both : Body = front (after 5 (here Z).body) in
         let Then : After 𝓤 H = any_q (after_seq 𝓤 H (Wp 𝓤 H 𝓣.C 𝓣.Λ En (after 6 (here Z).body) (at_return 𝓤 H En Post)) (at_return 𝓤 H En Post)) in
         sets ! (addr ! (through ! refl (fld ! refl (stop !)))) refl (tt, tt) $
-        use2 𝓛 (raw ((Refuse 𝓛 at_mem run).pre (at_refuse 𝓛 at_mem run κ₁ q₁ c n))) (Refuse-goes 𝓛 at_mem run κ₁ q₁ c n fn) $
-        calls_at ! (fm_of 𝓤 H 𝓛.laws 𝓣) (Refuse 𝓛 at_mem run) kn (at_refuse 𝓛 at_mem run κ₁ q₁ c n) (and_then ! (get ! refl) (and_then ! (get ! refl) (no_more !))) (λ u.
-        use1 𝓛 (later (some (λ (b : Bool). given (u ≡ vbool b) (‵ (flft κ₁ q₁))))) (Refuse-gives 𝓛 at_mem run κ₁ q₁ c n u) $ await ! tt $ pick ! (λ b. learn ! (λ eu. lands_as ! eu refl (tt, tt) $
+        use2 𝓛 (raw ((Refuse 𝓛 at_mem run).pre (at_refuse 𝓛 at_mem run κ₁ q₁ c 0 n 1))) (Refuse-goes 𝓛 at_mem run κ₁ q₁ c 0 n 1 (lit< tt) fn (lit< tt)) $
+        calls_at ! (fm_of 𝓤 H 𝓛.laws 𝓣) (Refuse 𝓛 at_mem run) kn (at_refuse 𝓛 at_mem run κ₁ q₁ c 0 n 1) (and_then ! (get ! refl) (and_then ! (lit ! tt) (and_then ! (get ! refl) (and_then ! (lit ! tt) (no_more !))))) (λ u.
+        use1 𝓛 (later (some (λ (b : Bool). given (u ≡ vbool b) (‵ (flft κ₁ q₁))))) (Refuse-gives 𝓛 at_mem run κ₁ q₁ c 0 n 1 u) $ await ! tt $ pick ! (λ b. learn ! (λ eu. lands_as ! eu refl (tt, tt) $
         first ! $ branches ! (get ! refl)
         (λ full. move ! (1 ∷ []) $ drop ! $ move ! (1 ∷ []) $ drop ! $ nothing ! $
         sets ! (agg ! (no_more !)) refl (tt, tt) $ sets ! (agg ! (and_then ! (lit ! tt) (and_then ! (get ! refl) (no_more !)))) refl (Answer-typed false 0 0) $
@@ -140,9 +140,9 @@ module _ (Z : Al) {M : Type 1} {𝓤 : Ura M} (𝓛 : Logic 𝓤) (at_mem : Memo
         first ! $ switches_on ! (get_tag ! (vrt ! refl (fld ! refl (stop !))) (whole !)) $ exec ! 𝓣.C 𝓣.Λ En (arm_body 1 both) Then $
         sets ! (of_opd ! (get_in ! (vrt ! refl (fld ! refl (stop !))) (in_variant ! 1 0 refl refl (whole !)))) refl (tt, tt) $
         sets ! (addr ! (through ! refl (fld ! refl (stop !)))) refl (tt, tt) $ move ! (1 ∷ []) $
-        use2 𝓛 (raw ((Give 𝓛 at_mem run).pre (at_give 𝓛 at_mem run κ₁ q₁ c n))) (Give-goes 𝓛 at_mem run κ₁ q₁ c n fn) $
-        calls_at ! (fm_of 𝓤 H 𝓛.laws 𝓣) (Give 𝓛 at_mem run) gn (at_give 𝓛 at_mem run κ₁ q₁ c n) (and_then ! (get ! refl) (and_then ! (get ! refl) (no_more !))) (λ w.
-        use1 𝓛 (later (given (w ≡ vunit) (‵ (flft κ₁ q₁)))) (Give-gives 𝓛 at_mem run κ₁ q₁ c n w) $ await ! tt $ learn ! (λ ew. lands_as ! ew refl (tt, tt) $
+        use2 𝓛 (raw ((Give 𝓛 at_mem run).pre (at_give 𝓛 at_mem run κ₁ q₁ c n 0 1))) (Give-goes 𝓛 at_mem run κ₁ q₁ c n 0 1 fn (lit< tt) (lit< tt)) $
+        calls_at ! (fm_of 𝓤 H 𝓛.laws 𝓣) (Give 𝓛 at_mem run) gn (at_give 𝓛 at_mem run κ₁ q₁ c n 0 1) (and_then ! (get ! refl) (and_then ! (get ! refl) (and_then ! (lit ! tt) (and_then ! (lit ! tt) (no_more !))))) (λ w.
+        use1 𝓛 (later (given (w ≡ vunit) (‵ (flft κ₁ q₁)))) (Give-gives 𝓛 at_mem run κ₁ q₁ c n 0 1 w) $ await ! tt $ learn ! (λ ew. lands_as ! ew refl (tt, tt) $
         sets_last ! (agg ! (and_then ! (lit ! tt) (and_then ! (get ! refl) (no_more !)))) refl (Answer-typed false 0 0) $
         exec ! 𝓣.C 𝓣.Λ En (after 6 (here Z).body) (at_ret En Post) $ sets ! (of_opd ! (get ! refl)) refl (Answer-typed false 0 0) $ returns ! (look_at ! 0 refl) $ free_all ! refl $
         nothing ! $ by ! refused)))))))))))
