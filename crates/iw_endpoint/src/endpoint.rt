@@ -1,6 +1,6 @@
 ghost use Rattle.std.specs.Prelude.{◌≡◌, ◌↔◌, ◌+◌, ◌<◌, ◌≤◌, ◌^◌, ◌++◌, true, false, length, ◌-◌};
 ghost use Rattle.std.specs.Prelude.{Some, None, option_copied, is_some, IsSome, IfSome, IfNone};
-ghost use Rattle.std.specs.Prelude.{Ok, is_ok, IsErr, IfOk, IfErr, OnOk, OnErr, vec_len, vec_capacity};
+ghost use Rattle.std.specs.Prelude.{Ok, is_ok, IsErr, IfOk, IfErr, OnOk, OnErr, max, vec_len, vec_capacity};
 ghost use Rattle.std.specs.Result.{result_err, result_ok};
 ghost use Rattle.std.specs.Option.{option_map};
 ghost use Rattle.std.specs.Borrow.{sem};
@@ -10,6 +10,7 @@ ghost use Rattle.iw_memory.specs.Table.{region_at, register_refusal, next_stag};
 ghost use Rattle.iw_ranges.specs.Arrived.{BringsOctets};
 ghost use Rattle.iw_octets.specs.declared.fault.Fault.{Fault};
 ghost use Rattle.iw_stream.specs.Kept.{IsWithin, IsWithinBuffer};
+ghost use Rattle.iw_stream.specs.Reading.{octets_read};
 ghost use Rattle.iw_stream.specs.Stream.{BeginsReads, IsNothing, due, ended, place_of, left_out};
 ghost use Rattle.iw_stream.specs.Work.{IsTry, task};
 ghost use Rattle.iw_endpoint.specs.Endpoint.{pool_refusal_of};
@@ -32,8 +33,8 @@ use iw_memory::{
 };
 use iw_octets::Octets;
 use iw_stream::{
-    Agreed, AnswerRefusal, Delivery, Emission, EnhancedData, FirstRefusal, Intake, PeerOptions,
-    PostRefusal, PrivateData, RecvRefusal, Request, SizeRefusal, Standing, Step,
+    Agreed, AnswerRefusal, Delivery, Emission, EnhancedData, FirstRefusal, Intake, MOST_READ,
+    PeerOptions, PostRefusal, PrivateData, RecvRefusal, Request, SizeRefusal, Standing, Step,
 };
 use iw_untagged::BufferRefusal;
 use std::alloc::{AllocError, Allocator, Global};
@@ -428,8 +429,24 @@ impl<A: Allocator> Endpoint<A> {
         ensures ok { IfOk result (λ intake. IsRead self.old self.new number (R.remaining from.old) (R.remaining from.new) intake) }
         ensures err { OnErr result ((self.new ≡ self.old) × Keeps (R.remaining from.old) (R.remaining from.new)) }
     {
+        self.read_some(number, from, MOST_READ)
+    }
+
+    /// As [`Endpoint::read_from`], but at most `most` octets are read, 1 if `most` is 0, and memory is asked for and cleared for
+    /// that many alone. So a connection that brings little keeps little memory.
+    pub fn read_some<R: Read>(
+        &mut self,
+        number: u32,
+        from: &mut R,
+        most: usize,
+    ) -> Result<Intake, CallRefusal<io::Error>>
+        ensures stream { (result ≡ Err CallRefusal.NoSuchStream) ↔ (has_stream self.old number ≡ false) }
+        ensures few { IfOk result (λ intake. octets_read intake ≤ max most 1) }
+        ensures ok { IfOk result (λ intake. IsRead self.old self.new number (R.remaining from.old) (R.remaining from.new) intake) }
+        ensures err { OnErr result ((self.new ≡ self.old) × Keeps (R.remaining from.old) (R.remaining from.new)) }
+    {
         match self.streams.get_mut(number) {
-            Some(stream) => match stream.read_from(from) {
+            Some(stream) => match stream.read_some(from, most) {
                 Ok(intake) => Ok(intake),
                 Err(error) => Err(CallRefusal::Refused(error)),
             },
