@@ -15,3 +15,4 @@ pub mod Spared
 pub mod Unseen
 pub mod Emptying
 pub mod Settling
+mod Shares

@@ -11,3 +11,5 @@ pub mod Copied
 pub mod Emptying
 pub mod Settling
 pub mod Drawing
+pub mod Sharing
+pub mod Shares

@@ -21,6 +21,7 @@ mod lending;
 mod limiting;
 mod next;
 mod opening;
+mod sharing;
 
 use crate::closed::Closed;
 use crate::pools::Pools;

@@ -3,6 +3,7 @@ ghost use Rattle.iw_endpoint.specs.Limited.{LimitedRegionsAreApart, LimitedRegio
 ghost use Rattle.iw_endpoint.specs.Copied.{RefusesCopiedOctets};
 ghost use Rattle.iw_endpoint.specs.Used.{NumbersAreUsedOnce};
 ghost use Rattle.iw_endpoint.specs.Emptying.{EmitComesToRest, KnownFrames, RefusesSentAgain};
+ghost use Rattle.iw_endpoint.specs.Shares.{StepsKeepShares, SharesSuffice};
 ghost use Rattle.iw_endpoint.specs.Settling.{WorkLeavesLess, KnownCalls, RefusesToldAgain};
 
 /// What a call answers, and how it changes the domain that it concerns, depend only on that domain's part of the
@@ -88,4 +89,17 @@ pub fn known_calls()
 /// A step that tells a message and keeps it breaks the law.
 pub fn refuses_told_again()
     ensures { RefusesToldAgain }
+{}
+
+/// A step within a share ([`Endpoint::work_within`](crate::Endpoint::work_within)) is that of `work` if the stream has less
+/// bound, and else that of an endpoint whose pool is empty, with all pools as they were. In a domain that has a pool it leaves the
+/// stream within its share. Each other stream has as many buffers bound as it had.
+pub fn steps_keep_shares()
+    ensures { StepsKeepShares }
+{}
+
+/// If the buffers of a pool, with those that are bound to streams of its domain, are enough for the shares of all these
+/// streams, and each keeps to its own, then a stream that has less than its share finds a buffer for each message in range.
+pub fn shares_suffice()
+    ensures { SharesSuffice }
 {}

@@ -1,6 +1,6 @@
 //! What an application uses: an [`Endpoint`] holds the registered regions of one end and its streams, by number.
 //!
-//! An endpoint does no input or output but in `read_from`. Each stream is one connection, over a socket that the
+//! An endpoint does no input or output but in `read_from` and `read_some`. Each stream is one connection, over a socket that the
 //! application owns. The application
 //!
 //! 1. adds a protection domain (`add_domain`), registers the octets that peers may use (`register`, which returns the
@@ -14,6 +14,10 @@
 //! 4. when the socket is readable, reads from it right to where the octets are to stand (`read_from`), then calls `work` until
 //!    it answers [`Step::Idle`]. Each call does one step and returns what it did. After [`Step::Asked`] the application calls
 //!    `accept` or `reject`, then `work` again. Afterwards there may be more to emit.
+//!
+//! `read_some` is `read_from` for a connection that brings little: it reads less, and takes less memory. Streams that share a pool
+//! without trusting one another are worked by `work_within`, each with a share of the pool's buffers: while the shares fit the
+//! pool, none wants for a buffer because of another ([`steps_keep_shares`], [`shares_suffice`]).
 //!
 //! In place of `read_from`, a program that reads by a call of its own reads to the place that `lend_place` names, and tells by
 //! `came` how many octets it read there. One whose octets come in another order than the peer sent them hands them in by
@@ -126,7 +130,7 @@ pub use laws::{
     calls_concern_one_domain, domains_are_alone, emit_comes_to_rest, known_calls, known_frames,
     limited_regions_are_apart, limited_regions_are_hidden, limited_regions_stay_apart,
     numbers_are_used_once, refuses_copied_octets, refuses_sent_again, refuses_told_again,
-    streams_know_their_numbers, work_comes_to_rest,
+    shares_suffice, steps_keep_shares, streams_know_their_numbers, work_comes_to_rest,
 };
 pub use refusal::{
     CallRefusal, LimitRefusal, NoSuchStream, NotAtRest, OpenNextRefusal, OpenSharedRefusal,

@@ -4,13 +4,15 @@ ghost use Rattle.std.specs.Borrow.{sem};
 ghost use Rattle.iw_endpoint.specs.Endpoint.{domain_numbers};
 ghost use Rattle.iw_endpoint.specs.Numbers.{filled};
 ghost use Rattle.iw_stream.specs.Kept.{IsWithinBuffer};
-ghost use Rattle.iw_stream.specs.Work.{IsTry, task, work_step, table_worked};
+ghost use Rattle.iw_stream.specs.Stream.{sees};
+ghost use Rattle.iw_stream.specs.Work.{IsTry, task, work_step, table_worked, worked_with};
 
 use iw_memory::Memory;
 use iw_octets::Octets;
 use iw_stream::{Step, Stream};
 use iw_untagged::SharedQueue;
 use std::alloc::{AllocError, Allocator, Global};
+use std::collections::VecDeque;
 use std::marker::Model;
 
 /// The pools of receive buffers, by domain. Memory is taken when a domain is given one.
@@ -48,8 +50,34 @@ fn reach<A: Allocator>(
     Ok(())
 }
 
+// Does one step at a stream while the pool has no buffer, and leaves the pool as it was.
+fn work_beside<A: Allocator>(
+    stream: &mut Stream<A>,
+    memory: &mut Memory<A>,
+    pool: &mut SharedQueue<A>,
+    none: VecDeque<Octets<A>, A>,
+) -> Result<Step<Octets<A>>, AllocError>
+    requires place { stream.old.arrived.floor ≤ 2 ^ 62 }
+    requires none { none.items ≡ [] }
+    ensures step { IfOk result (λ step. step ≡ work_step memory.old (sees stream.old [])) }
+    ensures stream { OnOk result (stream.new ≡ worked_with memory.old stream.old []) }
+    ensures pool { pool.new ≡ pool.old }
+    ensures memory { OnOk result (memory.new ≡ table_worked memory.old (sees stream.old [])) }
+    ensures err { OnErr result ((stream.new ≡ stream.old) × (memory.new ≡ memory.old)) }
+    ensures want { OnErr result (IsTry (task (sees stream.old []))) }
+    ensures reach { stream.new.arrived.floor ≤ stream.old.arrived.floor + 2 ^ 18 }
+    ensures within { IfOk result IsWithinBuffer }
+{
+    let mut withheld = none;
+    pool.exchange(&mut withheld);
+    let step = stream.work_shared(memory, pool);
+    pool.exchange(&mut withheld);
+    step
+}
+
 impl<A: Allocator> Pools<A> {
     ghost use Rattle.iw_endpoint.specs.Endpoint.{no_pools, lent_to, left_of, pool_left};
+    ghost use Rattle.iw_endpoint.specs.Sharing.{emptied};
     ghost use Rattle.iw_endpoint.specs.Places.{LendsPool};
 
     /// No domain has a pool. It takes no memory.
@@ -108,6 +136,33 @@ impl<A: Allocator> Pools<A> {
     {
         match self.get_mut(stream.domain()) {
             Some(pool) => stream.work_shared(memory, pool),
+            None => stream.work(memory),
+        }
+    }
+
+    /// Does one step at a stream as if the pool of its domain, if there is one, had no buffer. The pool stays as it is. An
+    /// `Err` means out of memory and changes nothing.
+    pub(crate) fn work_alone(
+        &mut self,
+        stream: &mut Stream<A>,
+        memory: &mut Memory<A>,
+    ) -> Result<Step<Octets<A>>, AllocError>
+    where
+        A: Copy,
+        requires { stream.old.arrived.floor ≤ 2 ^ 62 }
+        ensures step { IfOk result (λ step. step ≡ work_step memory.old (lent_to (emptied (slice_index_or self.old stream.old.domain None)) stream.old)) }
+        ensures stream { OnOk result (stream.new ≡ left_of memory.old (emptied (slice_index_or self.old stream.old.domain None)) stream.old) }
+        ensures pools { self.new ≡ self.old }
+        ensures memory { OnOk result (memory.new ≡ table_worked memory.old (lent_to (emptied (slice_index_or self.old stream.old.domain None)) stream.old)) }
+        ensures err { OnErr result ((stream.new ≡ stream.old) × (memory.new ≡ memory.old)) }
+        ensures want { OnErr result (IsTry (task (lent_to (emptied (slice_index_or self.old stream.old.domain None)) stream.old))) }
+        ensures reach { stream.new.arrived.floor ≤ stream.old.arrived.floor + 2 ^ 18 }
+        ensures within { IfOk result IsWithinBuffer }
+    {
+        let none = VecDeque::new(*self.places.allocator());
+        let pd = stream.domain();
+        match self.get_mut(pd) {
+            Some(pool) => work_beside(stream, memory, pool, none),
             None => stream.work(memory),
         }
     }
