@@ -7,10 +7,11 @@
 //!    or rejects the peer's Request, uses a message that was received, or takes note of what is done or has ended;
 //! 2. when the connection is writable, calls [`fill`], writes out what was appended, keeps what the connection did not take,
 //!    and then calls [`next`] in the same way: messages may be done. So it goes on until [`fill`] answers [`Filled::All`];
-//! 3. when the connection has ended, or a read or write failed, calls [`close`], and then [`next`] in the same way: what
+//! 3. when the connection has ended, or a read or write failed, calls [`break_link`], and then [`next`] in the same way: what
 //!    was posted is handed back.
 //!
 //! The application counts no octets. If a read would block, [`take`] answers an error of that kind, and the stream goes on.
+//! [`take_some`] is [`take`] for a connection that brings little.
 //!
 //! After a fault ([`Step::Fault`], [`Filled::Fault`]) the application writes the Terminate that [`fill`] appends, and goes
 //! on reading, by [`take`], until [`Intake::End`]. Only then it closes the socket: closing one that has unread octets makes
@@ -61,7 +62,7 @@
 //!
 //! /// Call it when the connection closed. All that was posted and is not done is handed back.
 //! pub(crate) fn closed<R: Runtime + AllocGlobal>(&mut self, rt: &R) -> Result<()> {
-//!     close(&mut self.endpoint, STREAM)?;
+//!     break_link(&mut self.endpoint, STREAM)?;
 //!     self.act(rt)
 //! }
 //!
@@ -87,7 +88,7 @@ mod working;
 
 pub use filling::{Filled, fill, fill_frames};
 pub use iw_endpoint::{CallRefusal, Endpoint, Intake, Octets, Step};
-pub use taking::{close, take};
+pub use taking::{break_link, close, take, take_some};
 pub use working::{Refusal, is_progress, next};
 
 /// The number of a stream of an endpoint.
