@@ -47,10 +47,13 @@ pub fn is_progress<A: Allocator>(step: &Step<Octets<A>>) -> bool
 }
 
 // By how much a step moves the in-order point at most: by the window.
-const MOST_MOVED: u64 = 1 << 18;
+pub(crate) const MOST_MOVED: u64 = 1 << 18;
 
 // Where the in-order point is, if a step may be done.
-fn point<A: Allocator>(endpoint: &Endpoint<A>, number: StreamNumber) -> Result<u64, Refusal>
+pub(crate) fn point<A: Allocator>(
+    endpoint: &Endpoint<A>,
+    number: StreamNumber,
+) -> Result<u64, Refusal>
     ensures refused { result_err result ≡ work_refusal endpoint.now number }
     ensures there { OnOk result (has_stream endpoint.now number ≡ true) }
     ensures point { IfOk result (λ point. point_at endpoint.now number ≤ point) }
@@ -65,7 +68,7 @@ fn point<A: Allocator>(endpoint: &Endpoint<A>, number: StreamNumber) -> Result<u
 
 // The same, given a place that the point is not past: it is looked up only if that is too far.
 #[inline(always)]
-fn point_within<A: Allocator>(
+pub(crate) fn point_within<A: Allocator>(
     endpoint: &Endpoint<A>,
     number: StreamNumber,
     reach: u64,
