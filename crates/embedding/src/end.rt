@@ -3,7 +3,7 @@ ghost use Rattle.iw_stream.specs.Kept.{IsWithinBuffer};
 use anyhow::{Result, bail};
 use bytes::Bytes;
 use iw_connection::{
-    CallRefusal, Endpoint, Filled, Intake, Octets, Step, StreamNumber, close, fill, next, take,
+    CallRefusal, Endpoint, Filled, Intake, Octets, Step, StreamNumber, break_link, fill, next, take,
 };
 use iw_endpoint::{Config, Establishment, PrivateData, Request, Rights, Role, Stag};
 use std::alloc::Global;
@@ -137,7 +137,7 @@ impl End {
 
     /// Call it when the connection closed. All that was posted and is not done is handed back.
     pub(crate) fn closed<R: Runtime + AllocGlobal>(&mut self, rt: &R) -> Result<()> {
-        close(&mut self.endpoint, STREAM)?;
+        break_link(&mut self.endpoint, STREAM)?;
         self.act(rt)
     }
 

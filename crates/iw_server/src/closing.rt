@@ -5,13 +5,13 @@ ghost use Rattle.iw_server.specs.Closing.{IsForgotten, IsGone};
 
 use crate::connection::{Broken, Connection};
 use crate::domains::Domains;
-use iw_connection::{Endpoint, Step, StreamNumber, close, next};
+use iw_connection::{Endpoint, Step, StreamNumber, break_link, next};
 
 /// Ends a stream, whose connection is over: what was posted is handed back, and the endpoint forgets the stream.
 pub(crate) fn end_stream(endpoint: &mut Endpoint, stream: StreamNumber) -> Result<(), Broken>
     ensures { OnOk result (IsForgotten endpoint.old stream endpoint.new) }
 {
-    match close(endpoint, stream) {
+    match break_link(endpoint, stream) {
         Ok(()) => {}
         Err(_) => return Err(Broken),
     }
