@@ -1,5 +1,5 @@
 //! Serves connections without end at one endpoint, in `crates/bench_many`. It prints what they hold and what each takes, and
-//! ends with status 1 where a limit is missed. Memory is counted as the allocator hands it out. Times are the processor's
+//! ends with status 1 where a limit is missed. With the word `reads` it reads connections that stay, and prints that alone. Memory is counted as the allocator hands it out. Times are the processor's
 //! time of this thread, the least of several runs that go by turns.
 
 #[path = "../clock.rs"]
@@ -42,8 +42,12 @@ const LOOK_UPS: u64 = 50_000_000;
 
 const IDLE: u32 = 10_000;
 
+/// How many connections are read and stay.
+const READ: u32 = 4_000;
+
 unsafe extern "C" {
     fn many_serve(connections: u32, alive: u32, octets: *const u8, n: usize) -> u32;
+    fn many_read(connections: u32, most: usize, octets: *const u8, n: usize) -> u32;
     fn many_idle(streams: u32, shares: bool) -> u32;
     fn many_handles(endpoints: u32, octets: *const u8, n: usize) -> u32;
     fn many_ended(streams: u32) -> u32;
@@ -53,6 +57,11 @@ unsafe extern "C" {
 fn serve(connections: u32, alive: u32) {
     let octets = [7; WRITE];
     assert_eq!(unsafe { many_serve(connections, alive, octets.as_ptr(), octets.len()) }, connections);
+}
+
+fn read(connections: u32, most: usize) {
+    let octets = [7; WRITE];
+    assert_eq!(unsafe { many_read(connections, most, octets.as_ptr(), octets.len()) }, connections);
 }
 
 fn handles(endpoints: u32) {
@@ -115,7 +124,19 @@ fn look_up(streams: u32, turns: usize) -> f64 {
     (least(LOOK_UPS) - least(0)) / LOOK_UPS as f64
 }
 
+/// What each connection that was read holds, by reads of at most so many octets; 0 for as many as a read takes.
+fn show_read(most: usize) {
+    let mut took = 0.0;
+    let held = most_held(|| took = time(|| read(READ, most))) - REGIONS;
+    let each = (took / f64::from(READ), held as f64 / f64::from(READ));
+    println!("{READ} connections, read by {most}: {:.1} microseconds and {:.0} octets each", each.0, each.1);
+}
+
 fn main() {
+    if std::env::args().any(|word| word == "reads") {
+        [0, 512, 4_096, 16_384].into_iter().for_each(show_read);
+        return;
+    }
     let turns = std::env::args().nth(1).and_then(|word| word.parse().ok()).unwrap_or(TURNS);
     let mut wanted = Wanted { missed: 0 };
     judge_served(10_000, ALIVE, &mut wanted);

@@ -18,6 +18,17 @@ pub extern "C" fn many_serve(alloc: Global, connections: u32, alive: u32, octets
     }
 }
 
+/// Reads connections, one after the other, and leaves them open: each takes a Write of these octets and a Send, by reads of at
+/// most `most` octets, or as many as a read takes if that is 0. Returns how many there were; 0 if anything went wrong.
+#[unsafe(no_mangle)]
+pub extern "C" fn many_read(alloc: Global, connections: u32, most: usize, octets: &[u8]) -> u32 {
+    let most = if most == 0 { None } else { Some(most) };
+    match server::read(alloc, connections, most, octets) {
+        Ok(()) => connections,
+        Err(_) => 0,
+    }
+}
+
 /// Opens streams in domain 1 of a new endpoint, and does nothing with them. Returns how many it opened.
 #[unsafe(no_mangle)]
 pub extern "C" fn many_idle(alloc: Global, streams: u32, shares: bool) -> u32 {

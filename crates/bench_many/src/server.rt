@@ -1,5 +1,5 @@
 use crate::client::{Stop, config, frames};
-use iw_connection::next;
+use iw_connection::{Intake, next, take, take_some};
 use iw_endpoint::{Endpoint, Rights, Role, STREAM_NUMBERS, Stag, Step};
 use std::alloc::Global;
 
@@ -116,6 +116,56 @@ impl Server {
         }
     }
 
+    // Reads frames until they end, by reads of at most `most` octets if that is given. Returns how many messages came.
+    fn hear(&mut self, number: u32, frames: &[u8], most: Option<usize>) -> Result<u32, Stop> {
+        let mut rest = frames;
+        let mut came = 0u32;
+        for _ in 0..MAX_STEPS {
+            let intake = match most {
+                None => take(&mut self.endpoint, number, &mut rest),
+                Some(most) => take_some(&mut self.endpoint, number, &mut rest, most),
+            };
+            match intake {
+                Ok(Intake::Came(_)) => came = came.wrapping_add(self.settle(number)?),
+                Ok(Intake::End) => return Ok(came),
+                _ => return Err(Stop),
+            }
+        }
+        Err(Stop)
+    }
+
+    // Opens a stream, reads the frames of a connection there, and leaves it open.
+    fn read_one(
+        &mut self,
+        alloc: Global,
+        all: &[Vec<u8>],
+        most: Option<usize>,
+    ) -> Result<(), Stop> {
+        let number = self.open(false)?;
+        let Some(frames) = all.get((number % REGIONS) as usize) else {
+            return Err(Stop);
+        };
+        self.lend(alloc, number)?;
+        if self.hear(number, frames, most)? == 1 {
+            Ok(())
+        } else {
+            Err(Stop)
+        }
+    }
+
+    fn read_all(
+        &mut self,
+        alloc: Global,
+        n: u32,
+        all: &[Vec<u8>],
+        most: Option<usize>,
+    ) -> Result<(), Stop> {
+        for _ in 0..n {
+            self.read_one(alloc, all, most)?;
+        }
+        Ok(())
+    }
+
     fn lend(&mut self, alloc: Global, number: u32) -> Result<(), Stop> {
         let buffer = vec![in alloc; 0u8; 64]?;
         match self.endpoint.post_recv(number, buffer) {
@@ -207,6 +257,19 @@ pub(crate) fn serve(
     server.add_domain(false)?;
     let all = server.register_all(alloc, octets)?;
     server.serve_all(alloc, connections, alive, &all)
+}
+
+/// Reads connections, all of which stay open, by reads of at most `most` octets if that is given.
+pub(crate) fn read(
+    alloc: Global,
+    connections: u32,
+    most: Option<usize>,
+    octets: &[u8],
+) -> Result<(), Stop> {
+    let mut server = Server::new(alloc);
+    server.add_domain(false)?;
+    let all = server.register_all(alloc, octets)?;
+    server.read_all(alloc, connections, &all, most)
 }
 
 /// Opens streams.
