@@ -2,7 +2,7 @@
 
 use bytes::Bytes;
 use iw_connection::{
-    Endpoint, Filled, Intake, Octets, Step, StreamNumber, close, fill, next, take,
+    Endpoint, Filled, Intake, Octets, Step, StreamNumber, break_link, fill, next, take, take_some,
 };
 use iw_endpoint::{
     Config, Establishment, Message, PrivateData, ReadRequest, Request, Rights, Role, Stag,
@@ -13,7 +13,7 @@ use std::test::Fail;
 
 const DOMAIN: u8 = 1;
 
-const STREAM: StreamNumber = 0;
+pub(crate) const STREAM: StreamNumber = 0;
 
 /// What the program has seen of its stream.
 #[derive(Clone, Copy, Debug, PartialEq, Eq)]
@@ -123,6 +123,17 @@ impl End {
         Ok(intake)
     }
 
+    /// The same, by a read that asks for at most `most` octets.
+    pub(crate) fn is_readable_for<S: Read>(
+        &mut self,
+        socket: &mut S,
+        most: usize,
+    ) -> Result<Intake, Fail> {
+        let intake = take_some(&mut self.endpoint, STREAM, socket, most)?;
+        self.act()?;
+        Ok(intake)
+    }
+
     /// The socket is writable: appends what is to be written, about `most` octets. Returns whether more may be due.
     pub(crate) fn is_writable(&mut self, out: &mut Vec<u8>, most: usize) -> Result<bool, Fail> {
         let filled = fill(&mut self.endpoint, STREAM, out, most)?;
@@ -132,7 +143,7 @@ impl End {
 
     /// The connection closed.
     pub(crate) fn closed(&mut self) -> Result<(), Fail> {
-        close(&mut self.endpoint, STREAM)?;
+        break_link(&mut self.endpoint, STREAM)?;
         self.act()
     }
 
