@@ -20,7 +20,7 @@ pub enum ServeFault {
     #[error("the output failed")]
     Output,
     /// Out of memory, before the first connection.
-    #[error("no memory before the first connection: the call may be made again")]
+    #[error("no memory before the first connection")]
     NoMemory,
 }
 
