@@ -41,7 +41,7 @@ use Rattle.iw_laws.proofs.Tracks.{Track, first_is}
 use Rattle.iw_laws.proofs.Reached.{Firsts, firsts}
 use Rattle.iw_laws.proofs.Ready.{ready_in}
 use Rattle.iw_laws.proofs.Counts.{count_last}
-use Rattle.iw_laws.proofs.Owns.{Emits, out_of}
+use Rattle.iw_laws.proofs.Owned.{Emits, out_of}
 use Rattle.iw_laws.proofs.Fills.{Fills}
 use Rattle.iw_laws.proofs.Heard.{Clear, clears}
 use Rattle.iw_laws.proofs.Responses.{AnswerFits, SinkFits, ready_fit, sent_ended, sent_fits, sent_responses}

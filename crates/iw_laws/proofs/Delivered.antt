@@ -72,7 +72,7 @@ use Rattle.iw_reads.specs.declared.requests.Asked.{Asked}
 use Rattle.std.proofs.lemmas.Bool.Decides.{nat_tests}
 use Rattle.iw_laws.proofs.Lists.{Each}
 use Rattle.iw_laws.proofs.Sending.{IsSendable}
-use Rattle.iw_laws.proofs.Owns.{Emits, out_of, all_begun}
+use Rattle.iw_laws.proofs.Owned.{Emits, out_of, all_begun}
 use Rattle.iw_laws.proofs.Ready.{ready_in}
 use Rattle.iw_queues.specs.Queue.{Queue}
 use Rattle.iw_laws.proofs.Heard.{IsHeard, Bare, Clear}

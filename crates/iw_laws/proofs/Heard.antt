@@ -36,7 +36,7 @@ use Rattle.iw_laws.proofs.Tales.{Tale}
 use Rattle.iw_laws.proofs.Rooms.{request_room, reply_room}
 use Rattle.iw_laws.proofs.Tracks.{OnStart, start_octets, Track, IsBare}
 use Rattle.iw_laws.proofs.Reached.{reaches}
-use Rattle.iw_laws.proofs.Owns.{Own, out_of, IsFramed, Unspoken, Spoken, IsStartOf, StartsAs, role_of}
+use Rattle.iw_laws.proofs.Owned.{Own, out_of, IsFramed, Unspoken, Spoken, IsStartOf, StartsAs, role_of}
 
 -- a stream that begins with start-up frames, by their exchange
 pub record Exchanges (start : StartState) (u : StartupState) : Type 0 where

@@ -110,7 +110,9 @@ use Rattle.iw_laws.proofs.Merges.{asked_or}
 use Rattle.iw_laws.proofs.Sending.{shown_good, Rests, Ended, Shut, Silent, Sent, MaySpeak, none_left, shows, EmitsStart, EmitsLast, EmitsReady, EmitsPart, EmitsResponse, emits_as, terminate_small, terminate_good, rtr_good, rtr_small, rtr_plain, rtr_last}
 use Rattle.iw_laws.proofs.Ready.{ready_in}
 use Rattle.iw_stream.specs.Rtr.{rtr_segment}
-use Rattle.iw_laws.proofs.Owns.{ready_gone, not_rtr, first_fits, Own, out_of, alone_out, lives, all_spoken, owes_some, runs_unbroken, answers_part, part_is_of, frame_plain, within, WithinTale, IsFramed, Unspoken, Spoken, below, past_start, before_start as owes_start}
+use Rattle.iw_laws.proofs.Owned.{ready_gone, not_rtr, first_fits, Own, out_of, alone_out, lives, all_spoken, owes_some, runs_unbroken, IsFramed, Unspoken, Spoken, below, past_start, before_start as owes_start}
+use Rattle.iw_laws.proofs.OwnedFrames.{answers_part, part_is_of, frame_plain}
+use Rattle.iw_laws.proofs.Owns.{within, WithinTale}
 use Rattle.iw_laws.proofs.Messages.{items_are, start_frame_is, open_is, sequence_is, can_finish, cannot_finish}
 use Rattle.iw_laws.proofs.Heard.{IsHeard, hears_all}
 use Rattle.iw_laws.proofs.Delivered.{whole_of, received_prefix, writes_covered}

@@ -12,7 +12,7 @@ use Rattle.iw_laws.proofs.Fills.{Fills, WerePlaced}
 use Rattle.iw_laws.proofs.Filled.{StandPlaced}
 use Rattle.iw_laws.proofs.Nexts.{IsFore}
 use Rattle.iw_laws.proofs.Onces.{Onces}
-use Rattle.iw_laws.proofs.Owns.{Own, Asks, IsMute, Parts, IsLive, Emits}
+use Rattle.iw_laws.proofs.Owned.{Own, Asks, IsMute, Parts, IsLive, Emits}
 use Rattle.iw_laws.proofs.States.{Connected}
 use Rattle.iw_laws.proofs.Tales.{Tale}
 use Rattle.iw_laws.proofs.Tracks.{Track, Begins, Early}

@@ -27,6 +27,9 @@ pub mod Onces
 pub mod Releases
 pub mod Fills
 pub mod Answers
+pub mod Owned
+pub mod OwnedFrames
+pub mod OwnedTurns
 pub mod Owns
 pub mod Lent
 pub mod Messages

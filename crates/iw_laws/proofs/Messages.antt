@@ -29,7 +29,8 @@ use Rattle.iw_laws.proofs.Tales.{Tale}
 use Rattle.iw_laws.proofs.Tracks.{Track}
 use Rattle.iw_laws.proofs.Lists.{Each}
 use Rattle.iw_laws.proofs.Counts.{count_reads-append, IsTold, count_last, count_last-append, farewell_last, marks, length-marks, Hands, hands, Awaits, none_done, read_mark, awaited_mark, awaited_read, merged_last, merged_told, all_told, front_last, message_at, place_within}
-use Rattle.iw_laws.proofs.Owns.{Emits, out_of, IsFramed, Unspoken, Spoken, left_gone}
+use Rattle.iw_laws.proofs.Owned.{Emits, out_of, IsFramed, Unspoken, Spoken}
+use Rattle.iw_laws.proofs.Owns.{left_gone}
 use Rattle.iw_laws.proofs.Ready.{ready_in, all_done, most_done}
 
 -- the story of a stream and its state begin alike

@@ -28,7 +28,7 @@ use Rattle.iw_laws.proofs.Nexts.{Front, fore, segment_in, segment_at}
 use Rattle.iw_laws.proofs.Joins.{count_responses, responses-append, sunk_waiting, count_ended, ended-append, requests_in, requests-append}
 use Rattle.iw_laws.proofs.Sending.{IsSendable}
 use Rattle.iw_laws.proofs.Tracks.{Track}
-use Rattle.iw_laws.proofs.Owns.{Emits, out_of}
+use Rattle.iw_laws.proofs.Owned.{Emits, out_of}
 use Rattle.iw_laws.proofs.Heard.{IsHeard}
 use Rattle.iw_laws.proofs.Responses.{AnswerFits, SinkFits, sent_responses, sent_ended, sent_before, sent_requests, sent_fits, ready_fit}
 use Rattle.iw_laws.proofs.Ready.{ready_in}

@@ -23,7 +23,8 @@ use Rattle.iw_laws.specs.Turns.{story, story_of, story_after, Pooling, pooling, 
 use Rattle.iw_laws.specs.Rules.{EndState, StreamRule, EndRule, call_made, end_after, seen_at, stream_for, wire_at}
 use Rattle.iw_laws.proofs.Checks.{places_in, places_lent}
 use Rattle.iw_laws.proofs.Lent.{requeued, retold, requeued_own}
-use Rattle.iw_laws.proofs.Owns.{Own, owning}
+use Rattle.iw_laws.proofs.Owned.{Own}
+use Rattle.iw_laws.proofs.Owns.{owning}
 use Rattle.iw_laws.proofs.Releases.{IsLeft, left_acts, left_apart, left_requeued}
 use Rattle.iw_laws.proofs.States.{Connected, connected_at, connected_seen, connected_after, left_at, stream_after, found, granted, denied, pools_refused, pools_there, own_lent, own_left, own_pool}
 use Rattle.iw_laws.proofs.Tales.{Tale, tale_of, tale_after, tale-push, pooled, pooling-push, story_apart}

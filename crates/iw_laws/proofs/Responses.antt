@@ -34,7 +34,7 @@ use Rattle.iw_laws.proofs.Tales.{Tale}
 use Rattle.iw_laws.proofs.Joins.{count_writes-append, count_responses, responses-append, count_ended, ended-append, requests_in, requests-append}
 use Rattle.iw_laws.proofs.Merges.{with_left, GoesWith, BeginsPost, BeginsResponse, answers-append, posts-append, goes_to, some_merged}
 use Rattle.iw_laws.specs.Sends.{farewells}
-use Rattle.iw_laws.proofs.Owns.{Emits, out_of, all_begun}
+use Rattle.iw_laws.proofs.Owned.{Emits, out_of, all_begun}
 use Rattle.iw_laws.proofs.Ready.{ready_in}
 use Rattle.iw_laws.proofs.Sending.{rtr_fits}
 

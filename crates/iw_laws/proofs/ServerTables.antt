@@ -35,7 +35,7 @@ use Rattle.iw_laws.specs.ServerLaws.{by_number}
 use Rattle.iw_laws.specs.ServerRegions.{server_table_by, server_table_if, server_table_from, server_table, server_standing, server_stream_act, plain_act, RegionsAnswer, ServerShowsRegions, OfServerRegions, WithinAs, FetchAs, TurnsAs, EarlyAs, SecondAs, PlacedAs}
 use Rattle.iw_laws.proofs.States.{Connected, table_left, granted, denied, asked}
 use Rattle.iw_laws.proofs.Pools.{tale_seen as tale}
-use Rattle.iw_laws.proofs.Owns.{Own}
+use Rattle.iw_laws.proofs.Owned.{Own}
 use Rattle.iw_laws.proofs.Ends.{EndSeen, AreNumbered, stream_some, number_at}
 use Rattle.iw_laws.proofs.Runs.{Moment}
 use Rattle.iw_laws.proofs.Renumbered.{under, SameDenials}

@@ -67,7 +67,8 @@ use Rattle.iw_laws.proofs.Tracks.{OnStart, start_octets, Track, shown_stays}
 use Rattle.iw_laws.proofs.Left.{equal_has}
 use Rattle.iw_laws.proofs.Releases.{IsLeft, Still, left_apart, nothing_given}
 use Rattle.iw_laws.proofs.Fills.{nothing_placed}
-use Rattle.iw_laws.proofs.Owns.{same_merges, Own, answers_part, first_fits, Emits, out_of, lives, all_spoken, word_unbroken, runs_unbroken, Unspoken, IsStartOf, past_start}
+use Rattle.iw_laws.proofs.Owned.{same_merges, Own, first_fits, Emits, out_of, lives, all_spoken, word_unbroken, runs_unbroken, Unspoken, IsStartOf, past_start}
+use Rattle.iw_laws.proofs.OwnedFrames.{answers_part}
 use Rattle.iw_laws.proofs.Pools.{told_by, tale, tale_seen, Holds, PoolsSeen, HeldAt, next_held, pools_next, seen_held}
 use Rattle.iw_laws.proofs.Ends.{EndSeen, IsTold, told_step, Opens, end_step, opens, numbered_open, numbered_shared, opens_same, at_act, at_same, at_other, number_there, unopened, opening_none, opening_one}
 
