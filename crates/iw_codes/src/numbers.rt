@@ -92,6 +92,11 @@ pub const SINK: u32 = 4;
 
 pub const INVALIDATE: u32 = 8;
 
+// How a region is registered.
+pub const LIMITED: u32 = 1;
+
+pub const DRAWN: u32 = 2;
+
 // How a stream begins.
 pub const PRESET: u32 = 0;
 
