@@ -1,8 +1,9 @@
 -- Reasons one after another: none of the first holds, and the last is a callee's.
-use Rattle.std.proofs.Common.{◌≡◌, ◌∙◌, ap, subst, sym, Option, Some, None, Result, Ok, Err, refl, ◌⊎◌, inl, inr}
-use Rattle.std.specs.Prelude.{IfSome, IfNone, IfErr, IsErr}
+use Rattle.std.proofs.Common.{◌≡◌, Bool, true, false, ◌∙◌, ap, subst, sym, Option, Some, None, Result, Ok, Err, refl, ◌⊎◌, inl, inr}
+use Rattle.std.specs.Prelude.{IfSome, IfNone, IfErr, IsErr, if◌then◌else◌}
 use Rattle.std.specs.Option.{option_map}
 use Rattle.std.specs.Result.{result_err}
+use Rattle.std.proofs.lemmas.Bool.{true≢false}
 use Rattle.std.proofs.lemmas.Option.{same_Some}
 use Rattle.iw_endpoint.specs.Endpoint.{EndpointState}
 use Rattle.iw_handle.specs.declared.held.Held.{Held}
@@ -41,6 +42,20 @@ module _ {R : Type 0} (reason : R → Refusal) where
   pub paired_memory : (o : Option R) (x none : R) (y : Refusal) → y ≡ reason x → IfNone o (x ≡ none) → IfNone (option_map reason o) (y ≡ reason none)
   paired_memory None x none y same memory = same ∙ ap reason memory
   paired_memory (Some z) x none y same memory = tt
+
+  -- the same where the clause says beside it that the answer is an error
+  pub paired_refused_in : (U : Type 0) (o : Option R) (x : R) (y : Refusal) → y ≡ reason x → IfSome o (λ r. (x ≡ r) × U) → IfSome (option_map reason o) (λ r. (y ≡ r) × U)
+  paired_refused_in U None x y same refused = tt
+  paired_refused_in U (Some z) x y same refused = (same ∙ ap reason refused.0, refused.1)
+
+pub err_paired : (A U : Type 0) (o : Option Refusal) (y : Refusal) → IfSome o (λ r. (y ≡ r) × U) → IfSome o (λ r. ◌≡◌ {A = Result A Refusal} (Err y) (Err r))
+err_paired A U None y is = tt
+err_paired A U (Some z) y is = ap Err is.0
+
+-- a fact of the chain that a test chooses
+pub chosen : (P : Option Refusal → Type 0) (b : Bool) (x y : Option Refusal) → b ≡ true → P x → P (if b then x else y)
+chosen P true x y is holds = holds
+chosen P false x y is holds = absurd (true≢false (sym is))
 
 pub err_refused : (A : Type 0) (o : Option Refusal) (y : Refusal) → IfSome o (λ r. y ≡ r) → IfSome o (λ r. ◌≡◌ {A = Result A Refusal} (Err y) (Err r))
 err_refused A None y is = tt

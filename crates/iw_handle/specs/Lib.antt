@@ -12,5 +12,6 @@ pub mod Lending
 pub mod Limiting
 pub mod Sending
 pub mod Sized
+pub mod Registering
 pub mod Filling
 pub mod Elsewhere

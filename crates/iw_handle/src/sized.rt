@@ -24,6 +24,8 @@ pub const OPTIONS_SIZE: usize = 48;
 
 pub const POSTING_SIZE: usize = 88;
 
+pub const REGISTRATION_SIZE: usize = 72;
+
 const _: () = prove!(size_of::<RegionTold>() == REGION_SIZE);
 
 const _: () = prove!(size_of::<PeerTold>() == PEER_SIZE);
@@ -31,6 +33,8 @@ const _: () = prove!(size_of::<PeerTold>() == PEER_SIZE);
 const _: () = prove!(size_of::<Options>() == OPTIONS_SIZE);
 
 const _: () = prove!(size_of::<Posting>() == POSTING_SIZE);
+
+const _: () = prove!(size_of::<Registration>() == REGISTRATION_SIZE);
 
 /// The facts of a region. What is reserved becomes 0.
 #[repr(C)]
@@ -93,6 +97,30 @@ pub struct Posting {
     /// The tagged offset that a Read goes to.
     pub sink_to: u64,
     pub token: u64,
+    pub reserved_0: u64,
+    pub reserved_1: u64,
+    pub reserved_2: u64,
+    pub reserved_3: u64,
+}
+
+/// How a region is registered. Fields that its flags leave out are not read, and neither is what is reserved.
+#[repr(C)]
+#[derive(Clone, Copy)]
+pub struct Registration {
+    /// How many octets the program's struct has.
+    pub size: usize,
+    /// A sum of 1 (it is limited to a stream) and 2 (its STag is drawn).
+    pub flags: u64,
+    /// The tagged offset of its first octet.
+    pub base: u64,
+    /// A sum of 1 (write), 2 (read), 4 (sink) and 8 (invalidate).
+    pub rights: u32,
+    /// Its domain, if it is not limited.
+    pub pd: u32,
+    /// The stream that it is limited to.
+    pub stream: u32,
+    /// The random bits that its STag is drawn by.
+    pub drawn: u32,
     pub reserved_0: u64,
     pub reserved_1: u64,
     pub reserved_2: u64,
