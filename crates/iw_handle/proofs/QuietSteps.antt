@@ -20,7 +20,7 @@ use Rattle.iw_handle.specs.Streams.{refusal_to_work, TriesAt, lines_by, lines_af
 use Rattle.iw_handle.specs.Steps.{is_quiet, is_quiet_answer, is_quiet_at, GoesQuietly, after_steps, Works, WorksOn}
 
 -- it hands nothing back, and no message is done
-lines_by-quiet : (step : Step (List ℕ)) (number : ℕ) (lines : LineTable) → is_quiet step ≡ true → lines_by step number lines ≡ lines
+pub lines_by-quiet : (step : Step (List ℕ)) (number : ℕ) (lines : LineTable) → is_quiet step ≡ true → lines_by step number lines ≡ lines
 lines_by-quiet (Placed right stag to len) number lines quiet = refl
 lines_by-quiet (Buffered msn mo len) number lines quiet = refl
 lines_by-quiet (Requested size stag to) number lines quiet = refl
@@ -38,17 +38,17 @@ lines_by-quiet (Fault fault) number lines quiet = refl
 lines_by-quiet Idle number lines quiet = refl
 
 -- what a step of the endpoint answered
-abbrev Answered : Type 0
+abbrev pub Answered : Type 0
 Answered = Result (Step (List ℕ)) Refusal
 
 -- a step that was done was not refused
-none_refused : (o : Option Refusal) (step : Step (List ℕ)) →
+pub none_refused : (o : Option Refusal) (step : Step (List ℕ)) →
     IfSome o (λ r. let answer : Answered = Ok step in answer ≡ Err r) → o ≡ None
 none_refused None step refused = refl
 none_refused (Some r) step refused = cc
 
 -- a refusal is the same of a step and of what is told of it
-same_refusal : (o : Option Refusal) (refusal : Refusal) →
+pub same_refusal : (o : Option Refusal) (refusal : Refusal) →
     IfSome o (λ r. let answer : Answered = Err refusal in answer ≡ Err r) → IfSome o (λ r. Some refusal ≡ Some r)
 same_refusal None refusal is = tt
 same_refusal (Some r) refusal is = cc

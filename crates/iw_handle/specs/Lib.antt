@@ -13,5 +13,6 @@ pub mod Limiting
 pub mod Sending
 pub mod Sized
 pub mod Registering
+pub mod Sharing
 pub mod Filling
 pub mod Elsewhere

@@ -21,6 +21,7 @@ use Rattle.iw_endpoint.specs.declared.refusal.NoSuchStream.{NoSuchStream}
 use Rattle.iw_endpoint.specs.Endpoint as endpoint
 use Rattle.iw_endpoint.specs.Endpoint.{EndpointState, has_stream, stream_at, private_at, sent_at, point_at}
 use Rattle.iw_endpoint.specs.Endpoint.{step_at, after_work, emission_at, emitted_at, pool_of, lent_to}
+use Rattle.iw_endpoint.specs.Sharing.{bound_at}
 use Rattle.iw_codes.specs.declared.numbers.TheConstants as numbers
 use Rattle.iw_handle.specs.declared.event.Event.{Event}
 use Rattle.iw_handle.specs.declared.event.Progress.{Progress}
@@ -157,10 +158,10 @@ progress_at e number = record {
   sent = sent_at e number;
   in_order = point_at e number;
   due = length (emitted_at e number);
+  bound = bound_at e number;
   reserved_0 = 0;
   reserved_1 = 0;
   reserved_2 = 0;
-  reserved_3 = 0;
 }
 
 -- ---- what is posted

@@ -74,14 +74,17 @@ fn progress(endpoint: &Endpoint, number: u32) -> Result<Progress, Refusal>
     let Ok(due) = endpoint.due_len(number) else {
         return Err(Refusal::NoSuchStream);
     };
+    let Ok(bound) = endpoint.bound_buffers(number) else {
+        return Err(Refusal::NoSuchStream);
+    };
     Ok(Progress {
         sent,
         in_order,
         due: due as u64,
+        bound: bound as u64,
         reserved_0: 0,
         reserved_1: 0,
         reserved_2: 0,
-        reserved_3: 0,
     })
 }
 
@@ -111,8 +114,9 @@ impl Handle {
         done
     }
 
-    /// How far a stream is: how many octets it has emitted, its in-order point, and how many octets the next call of
-    /// [`Handle::emit`] gives, 0 also if that would tell a fault.
+    /// How far a stream is: how many octets it has emitted, its in-order point, how many octets the next call of
+    /// [`Handle::emit`] gives, 0 also if that would tell a fault, and how many buffers of its domain's pool it has bound
+    /// ([`Endpoint::bound_buffers`]).
     pub fn progress(&mut self, alloc: Global, number: u32) -> Result<Progress, Refusal>
         ensures refused { result_err result ≡ refusal_in self.old.state (λ e. refusal_to_go_on e number) }
         ensures progress { IfOk result (λ progress. Some progress ≡ told_in self.old.state (λ e. progress_at e number)) }

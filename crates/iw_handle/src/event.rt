@@ -116,7 +116,7 @@ pub struct Told {
     pub rtr_read: u32,
 }
 
-/// How far a stream is, in octets.
+/// How far a stream is.
 #[repr(C)]
 #[derive(Clone, Copy)]
 pub struct Progress {
@@ -126,10 +126,11 @@ pub struct Progress {
     pub in_order: u64,
     /// How many octets the next call of `emit` gives.
     pub due: u64,
+    /// How many buffers of its domain's pool it has bound.
+    pub bound: u64,
     pub reserved_0: u64,
     pub reserved_1: u64,
     pub reserved_2: u64,
-    pub reserved_3: u64,
 }
 
 /// There was nothing to do.

@@ -23,6 +23,7 @@ mod refusal;
 mod regions;
 mod registering;
 mod sending;
+mod sharing;
 mod sized;
 mod streams;
 mod words;

@@ -48,7 +48,7 @@ fn deliver(
 
 // Tells a step, and keeps what it hands back. The token of a message that is done or given up is taken out.
 #[inline(always)]
-fn tell(step: Step<Octets>, number: u32, lines: &mut Lines, event: &mut Event)
+pub(crate) fn tell(step: Step<Octets>, number: u32, lines: &mut Lines, event: &mut Event)
     ensures event { event.new ≡ event_of (oldest_token (line_at lines.old number)) step }
     ensures lines { lines.new ≡ lines_by step number lines.old }
 {
@@ -72,10 +72,10 @@ fn tell(step: Step<Octets>, number: u32, lines: &mut Lines, event: &mut Event)
 }
 
 // By how much a step moves the in-order point at most: by the window.
-const MOST_MOVED: u64 = 1 << 18;
+pub(crate) const MOST_MOVED: u64 = 1 << 18;
 
 // Where the in-order point is, if a step may be done.
-fn point(endpoint: &Endpoint, number: u32) -> Result<u64, Refusal>
+pub(crate) fn point(endpoint: &Endpoint, number: u32) -> Result<u64, Refusal>
     ensures refused { result_err result ≡ refusal_to_work endpoint.now number }
     ensures there { OnOk result (has_stream endpoint.now number ≡ true) }
     ensures point { IfOk result (λ point. point_at endpoint.now number ≤ point) }
@@ -90,7 +90,7 @@ fn point(endpoint: &Endpoint, number: u32) -> Result<u64, Refusal>
 
 // The same, given a place that the point is not past: it is looked up only if that is too far.
 #[inline(always)]
-fn point_within(endpoint: &Endpoint, number: u32, reach: u64) -> Result<u64, Refusal>
+pub(crate) fn point_within(endpoint: &Endpoint, number: u32, reach: u64) -> Result<u64, Refusal>
     requires { point_at endpoint.now number ≤ reach }
     ensures refused { IfErr result (λ refusal. refusal_to_work endpoint.now number ≡ Some refusal) }
     ensures point { IfOk result (λ point. point_at endpoint.now number ≤ point) }

@@ -238,6 +238,59 @@ fn from_a_pool(rt: HostRuntime) -> Result<(), Fail> {
     Ok(())
 }
 
+// Emits a frame into a buffer, and returns how many octets it has.
+fn emit(alloc: Global, end: &mut End, out: &mut [u8]) -> Result<usize, Fail> {
+    let mut len = 0usize;
+    end.handle.emit(alloc, STREAM, out, &mut len)?;
+    Ok(len)
+}
+
+// Delivers a frame of so many octets, so many past the first octet of the peer's, and returns the kind of the step that is told
+// by work with this share.
+fn work_within(
+    alloc: Global,
+    end: &mut End,
+    past: usize,
+    frame: &[u8],
+    n: usize,
+    share: usize,
+) -> Result<u32, Fail> {
+    let number = ((u64::from(FIRST) + past as u64) % (1 << 32)) as u32;
+    if n <= frame.len() {
+        let _ = end.handle.deliver(alloc, STREAM, number, &frame[..n])?;
+    }
+    let mut event = NO_EVENT;
+    end.handle.work_within(alloc, STREAM, share, &mut event)?;
+    Ok(event.kind)
+}
+
+// Of two Sends the second comes first. Returns how many buffers it binds, and what is then told of the first, with this share.
+fn second_first(alloc: Global, share: usize) -> Result<(u64, u32), Fail> {
+    let mut a = End::open(alloc, PRESET, b"")?;
+    let mut b = End::sharing(alloc)?;
+    b.handle.post_shared(alloc, 1, 600)?;
+    b.handle.post_shared(alloc, 1, 600)?;
+    a.handle.post_send(alloc, STREAM, &[7u8; 600], 0, 0, 0)?;
+    a.handle.post_send(alloc, STREAM, &[8u8; 600], 0, 0, 0)?;
+    let mut one = [0u8; 700];
+    let mut two = [0u8; 700];
+    let n = emit(alloc, &mut a, &mut one)?;
+    let m = emit(alloc, &mut a, &mut two)?;
+    let _ = work_within(alloc, &mut b, n, &two, m, share)?;
+    let bound = b.handle.progress(alloc, STREAM)?.bound;
+    let kind = work_within(alloc, &mut b, 0, &one, n, share)?;
+    Ok((bound, kind))
+}
+
+// With a share of one the first Send finds no buffer, and the stream ends; with one of two it is received.
+#[test]
+fn from_a_share(rt: HostRuntime) -> Result<(), Fail> {
+    let alloc = rt.alloc();
+    assert_eq!(rt; second_first(alloc, 1)?, (1, 13));
+    assert_eq!(rt; second_first(alloc, 2)?, (1, 11));
+    Ok(())
+}
+
 #[test]
 fn broken(rt: HostRuntime) -> Result<(), Fail> {
     let alloc = rt.alloc();
