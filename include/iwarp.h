@@ -29,9 +29,9 @@
  *   iwarp_region_at tell, only between calls on that buffer or on that region's handle, and passes no pointer to them to
  *   such a call. It writes to octets that were posted from a buffer only after they were fetched.
  * - The program, or the system for it, writes to a place that iwarp_room lent only until the place is taken back: by the next
- *   call of iwarp_room, iwarp_came, iwarp_deliver, iwarp_work, iwarp_work_on, iwarp_emit, iwarp_emit_onto, iwarp_fill,
- *   iwarp_accept, iwarp_reject, iwarp_break or iwarp_close on that stream, whatever it returns, and by iwarp_free. Calls on
- *   other streams, and others on that stream, may go on meanwhile.
+ *   call of iwarp_room, iwarp_came, iwarp_deliver, iwarp_work, iwarp_work_on, iwarp_work_within, iwarp_emit, iwarp_emit_onto,
+ *   iwarp_fill, iwarp_accept, iwarp_reject, iwarp_break or iwarp_close on that stream, whatever it returns, and by iwarp_free. Calls
+ *   on other streams, and others on that stream, may go on meanwhile.
  * - No pointer is null, even if its count is 0: pass `iwarp_octets(p)` and `iwarp_out(p)` for a `p` that may be. `octets` and
  *   `private_data` point to `n` octets that can be read, and that nothing writes during the call; `out` points to `room` octets
  *   that can be written. What the pointers of one call point to does not overlap.
@@ -43,10 +43,10 @@
  *
  * Each function that returns an int32_t returns IWARP_OK, or the first reason why it did nothing. If it does not return
  * IWARP_OK, the handle, the buffer and all that the call may write are as they were, with five exceptions: a length is written
- * with IWARP_NO_ROOM (by iwarp_emit with IWARP_NO_MEMORY too); the steps that iwarp_work_on did before a refused one stay
- * done; a place that iwarp_room lent is taken back by the calls named above; iwarp_emit_onto and iwarp_fill may leave the
- * buffer's octets at another address; and iwarp_post_send_buffer says what may become of a buffer. IWARP_NO_MEMORY means that
- * malloc failed; the call may be made again. A call that copies octets, or allocates a receive buffer, does so first, so it
+ * with IWARP_NO_ROOM (by iwarp_emit with IWARP_NO_MEMORY too); the steps that iwarp_work_on or iwarp_work_within did before a
+ * refused one stay done; a place that iwarp_room lent is taken back by the calls named above; iwarp_emit_onto and iwarp_fill may
+ * leave the buffer's octets at another address; and iwarp_post_send_buffer says what may become of a buffer. IWARP_NO_MEMORY means
+ * that malloc failed; the call may be made again. A call that copies octets, or allocates a receive buffer, does so first, so it
  * may return IWARP_NO_MEMORY in place of a reason that the region, the stream or the pool has; iwarp_post_send_buffer,
  * iwarp_post_write_buffer and iwarp_post_buffer, which allocate a few octets first, may too. Any other call that takes a buffer
  * returns it only if no other reason holds.
@@ -95,7 +95,7 @@ extern "C" {
 #endif
 
 /* The version of this header: 10,000 for each major number, 100 for each minor one, 1 for each revision. */
-#define IWARP_VERSION 10100
+#define IWARP_VERSION 10200
 
 /* An endpoint, or none. */
 struct iwarp {
@@ -266,6 +266,36 @@ int32_t iwarp_register_for(struct iwarp *handle, uint32_t stream, uint64_t base,
  * iwarp_register_buffer does. */
 int32_t iwarp_register_buffer_for(struct iwarp *handle, uint32_t stream, uint64_t base, struct iwarp_buffer *buffer,
                                   uint32_t rights, uint32_t *stag);
+
+/* How a region is registered. */
+enum {
+    IWARP_LIMITED = 1, /* it is limited to one stream, as by iwarp_register_for */
+    IWARP_DRAWN = 2 /* its STag is drawn by random bits, so that no peer can tell the next one (RFC 5042 6.1.1) */
+};
+
+/* A region to register. Fields that its flags leave out are not read; nor is what is reserved, which is 0. */
+struct iwarp_registration {
+    size_t size; /* sizeof(struct iwarp_registration) */
+    uint64_t flags; /* a sum of IWARP_LIMITED and IWARP_DRAWN */
+    uint64_t base; /* the tagged offset of its first octet */
+    uint32_t rights; /* a sum of IWARP_WRITE and so on */
+    uint32_t pd; /* its domain; without IWARP_LIMITED */
+    uint32_t stream; /* the stream that it is limited to, whose domain is its own; with IWARP_LIMITED */
+    uint32_t drawn; /* random bits of the program's, new for each region, as getrandom gives them; with IWARP_DRAWN */
+    uint64_t reserved[4];
+};
+
+/* Registers a copy of the octets as a region that a struct describes, as iwarp_register or iwarp_register_for does. Those give the
+ * STag of the domain's lowest free slot, under its next key: a peer can guess it. With IWARP_DRAWN the low ten bits of `drawn` choose
+ * the slot, the first free one from that place on, of 1,024, and the others the key, any of the 255 that are not the slot's last one.
+ * The first such region of a domain may take the memory for all its slots, 24,576 octets. Behind IWARP_IS_CLOSED the struct is
+ * judged first: IWARP_BAD_STRUCT, then IWARP_BAD_BITS, for the flags and for the rights. */
+int32_t iwarp_register_as(struct iwarp *handle, const struct iwarp_registration *registration, const uint8_t *octets, size_t n,
+                          uint32_t *stag);
+
+/* Registers the buffer's octets themselves, as iwarp_register_as does a copy, and takes them as iwarp_register_buffer does. */
+int32_t iwarp_register_buffer_as(struct iwarp *handle, const struct iwarp_registration *registration,
+                                 struct iwarp_buffer *buffer, uint32_t *stag);
 
 /* Deregisters a region, valid or not: its octets are the buffer's then, with nothing copied, and those that the buffer had
  * are freed. `buffer` was made, with 0 octets for instance, or is the one that the region was registered from. */
@@ -589,6 +619,15 @@ int32_t iwarp_work(struct iwarp *handle, uint32_t stream, struct iwarp_event *ev
  * before it stay done. */
 int32_t iwarp_work_on(struct iwarp *handle, uint32_t stream, struct iwarp_event *event);
 
+/* As iwarp_work_on, but a step is lent the pool of the stream's domain only while the stream has fewer than `share` of its buffers
+ * bound, so that a peer takes no more than its share from the others (RFC 5042 6.4.3.1). A Send that would bind one more ends the
+ * stream, as one that finds the pool empty does (IWARP_UNTAGGED_NO_BUFFER). A buffer is bound when a segment of a Send is placed in
+ * it first, which may be before the Sends in front have come, until IWARP_RECEIVED or IWARP_FLUSHED_RECV reports it: so let the
+ * share be as many as the Sends that the peer may have under way. iwarp_progress tells how many are bound. While a pool's buffers and
+ * those that are bound are together as many as the shares of all its streams, a stream with fewer than its share bound finds one. A
+ * stream with receive buffers of its own does as by iwarp_work_on. */
+int32_t iwarp_work_within(struct iwarp *handle, uint32_t stream, size_t share, struct iwarp_event *event);
+
 /* Copies the message or buffer that was reported last on this stream to the front of `out`, and forgets it. `*n` is how many
  * octets it has, with IWARP_NO_ROOM too; 0 if there is none. */
 int32_t iwarp_fetch(struct iwarp *handle, uint32_t stream, uint8_t *out, size_t room, size_t *n);
@@ -673,12 +712,13 @@ int32_t iwarp_fill(struct iwarp *handle, uint32_t stream, size_t most, struct iw
  * its socket to be writable if it is 1, or if some of what was emitted is not yet written. */
 int32_t iwarp_wants_write(struct iwarp *handle, uint32_t stream, uint32_t *wants);
 
-/* How far a stream is, in octets. */
+/* How far a stream is, in octets. What is reserved becomes 0. */
 struct iwarp_progress {
     uint64_t sent; /* emitted, the start-up frame among them */
     uint64_t in_order; /* of the peer's, before the in-order point */
     uint64_t due; /* of the next frame, which the next call of iwarp_emit gives; 0 if that reports IWARP_NOTHING or IWARP_DENIED */
-    uint64_t reserved[4];
+    uint64_t bound; /* how many buffers of its domain's pool it has bound; 0 in libraries before 1.2 */
+    uint64_t reserved[3];
 };
 
 /* Tells how far a stream is. Whether to call iwarp_emit is told by iwarp_wants_write: `due` is 0 too if IWARP_DENIED is to be

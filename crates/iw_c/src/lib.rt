@@ -15,7 +15,9 @@ mod pools;
 mod posting;
 mod receiving;
 mod regions;
+mod registering;
 mod sending;
+mod sharing;
 mod sized;
 mod streams;
 mod texts;
@@ -50,7 +52,9 @@ pub use regions::{
     iwarp_deregister, iwarp_drop_region, iwarp_facts, iwarp_invalidate, iwarp_load,
     iwarp_region_at, iwarp_register, iwarp_store,
 };
+pub use registering::{iwarp_register_as, iwarp_register_buffer_as};
 pub use sending::{iwarp_fetch_sent, iwarp_post_send_buffer, iwarp_post_write_buffer};
+pub use sharing::iwarp_work_within;
 pub use sized::{iwarp_new_with, iwarp_peer_facts, iwarp_region_facts};
 use std::alloc::Global;
 pub use streams::{
@@ -60,7 +64,7 @@ pub use streams::{
 pub use texts::{iwarp_fault_text_at, iwarp_text_at};
 
 /// The version of this library: 10,000 for each major number, 100 for each minor one, 1 for each revision.
-pub const VERSION: u32 = 10_100;
+pub const VERSION: u32 = 10_200;
 
 /// Returns [`VERSION`].
 #[unsafe(no_mangle)]
