@@ -80,6 +80,30 @@ static void registers(void) {
     CHECK(iwarp_drop_region(&end, stag) == IWARP_OK && iwarp_drop_region(&end, stag) == IWARP_NO_REGION);
 }
 
+/* The bits tell the slot and the key of an STag of a slot that no region had: 700 and 9. Without them it is the next one. */
+static void draws(void) {
+    struct iwarp_registration registration = {.size = sizeof registration, .flags = IWARP_DRAWN, .drawn = 9 * 1024 + 700};
+    struct iwarp_facts facts;
+    uint32_t stag = 0;
+    registration.pd = DOMAIN;
+    registration.stream = STREAM;
+    registration.rights = IWARP_READ;
+    registration.base = 5;
+    CHECK(iwarp_register_buffer_as(&end, &registration, &none, &stag) == IWARP_BUFFER_MISSING);
+    CHECK(iwarp_register_buffer_as(&end, &registration, &buffer, &stag) == IWARP_OK && has(0));
+    CHECK(stag == ((uint32_t)DOMAIN << 24) + (700 << 8) + 9);
+    CHECK(iwarp_deregister_buffer(&end, stag, &buffer) == IWARP_OK && has(LENGTH));
+    registration.flags = IWARP_LIMITED;
+    CHECK(iwarp_register_buffer_as(&end, &registration, &buffer, &stag) == IWARP_OK && has(0));
+    CHECK(iwarp_facts(&end, stag, &facts) == IWARP_OK && facts.limited == 1 && facts.stream == STREAM && facts.base == 5);
+    CHECK(stag >> 8 == (uint32_t)DOMAIN << 16);
+    CHECK(iwarp_deregister_buffer(&end, stag, &buffer) == IWARP_OK && has(LENGTH));
+    registration.flags = 4;
+    CHECK(iwarp_register_buffer_as(&end, &registration, &buffer, &stag) == IWARP_BAD_BITS && has(LENGTH));
+    registration.size--;
+    CHECK(iwarp_register_buffer_as(&end, &registration, &buffer, &stag) == IWARP_BAD_STRUCT && has(LENGTH));
+}
+
 /* The event that the next step of a stream reports is of this kind, and has this token. */
 static int tells(uint32_t stream, uint32_t kind, uint64_t token) {
     struct iwarp_event event;
@@ -280,6 +304,7 @@ int main(void) {
     makes();
     refuses();
     registers();
+    draws();
     sends();
     gathers();
     denies();

@@ -16,6 +16,7 @@ struct carried {
     struct iwarp *end;
     uint32_t stream;
     int fd;
+    size_t share; /* how many buffers of its domain's pool it may have bound at once; 0: as many as there are */
     struct iwarp_buffer frames; /* what was emitted, and the socket has not taken yet: made with 0 octets */
     int asked; /* the peer's Request has come, and is not answered yet */
     int ended; /* by a fault: once all is written, the output is shut down; go on reading until the peer closes */
@@ -38,11 +39,16 @@ static enum turn refused(int32_t code) { return code == IWARP_NO_MEMORY ? TURN_N
 /* A read or a write that would wait, or was interrupted: nothing has changed. */
 static int is_for_later(int error) { return error == EAGAIN || error == EINTR; }
 
+static int32_t work_on(struct carried *carried, struct iwarp_event *event) {
+    if (carried->share == 0) return iwarp_work_on(carried->end, carried->stream, event);
+    return iwarp_work_within(carried->end, carried->stream, carried->share, event);
+}
+
 /* Does what there is to do. */
 static enum turn work(struct carried *carried) {
     struct iwarp_event event;
     do {
-        int32_t code = iwarp_work_on(carried->end, carried->stream, &event);
+        int32_t code = work_on(carried, &event);
         if (code != IWARP_OK) return refused(code);
         act_on(carried, &event);
     } while (event.kind != IWARP_IDLE);

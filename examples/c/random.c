@@ -171,6 +171,53 @@ static int judged(int32_t code, int32_t reason) {
     return answered(code);
 }
 
+static struct iwarp_registration any_registration(void) {
+    struct iwarp_registration registration = {.size = any_size(sizeof registration), .base = any_place(), .rights = any_bits(15)};
+    registration.flags = below(20) ? below(4) : any_place();
+    registration.pd = any_domain();
+    registration.stream = any_stream();
+    registration.drawn = chance();
+    registration.reserved[below(4)] = chance();
+    return registration;
+}
+
+/* The reason that a struct has by itself. */
+static int32_t wrong_to_register(const struct iwarp_registration *registration) {
+    if (registration->size < sizeof *registration) return IWARP_BAD_STRUCT;
+    return registration->flags > 3 || registration->rights > 15 ? IWARP_BAD_BITS : IWARP_OK;
+}
+
+/* A region is registered as a struct says, under an STag that names no other; or none is, and nothing is told. */
+static int registered(struct iwarp *handle, int32_t code, const struct iwarp_registration *registration, uint32_t stag, size_t n) {
+    struct iwarp_facts facts;
+    uint32_t limited = registration->flags & IWARP_LIMITED;
+    if (!judged(code, wrong_to_register(registration))) {
+        CHECK(stag == MARK);
+        return 0;
+    }
+    CHECK(iwarp_facts(handle, stag, &facts) == IWARP_OK && facts.valid && facts.len == n && facts.base == registration->base);
+    CHECK(facts.rights == registration->rights && facts.limited == limited && facts.stream == (limited ? registration->stream : 0));
+    CHECK(limited || stag >> 24 == registration->pd);
+    stags[below(16)] = stag;
+    return 1;
+}
+
+static void call_register_as(struct iwarp *handle, size_t n) {
+    struct iwarp_registration registration = any_registration();
+    uint32_t stag = MARK;
+    int32_t code = iwarp_register_as(handle, &registration, given, n, &stag);
+    registered(handle, code, &registration, stag, n);
+}
+
+static void call_register_buffer_as(struct iwarp *handle, struct iwarp_buffer *buffer) {
+    struct iwarp_registration registration = any_registration();
+    uint32_t stag = MARK;
+    uint8_t *at;
+    size_t had = has(buffer, &at);
+    int32_t code = iwarp_register_buffer_as(handle, &registration, buffer, &stag);
+    takes(registered(handle, code, &registration, stag, had), buffer, had, at);
+}
+
 /* A handle that is open stays as it is; another is opened by options. */
 static void call_new_with(struct iwarp *handle) {
     struct iwarp_options options = {.size = any_size(sizeof options), .flags = below(4) ? 0 : any_place(), .reserved = {MARK}};
@@ -208,9 +255,15 @@ static void call_memory(struct iwarp *handle, struct iwarp_buffer *buffer) {
     struct iwarp_facts facts;
     uint8_t *at, *later;
     size_t had = has(buffer, &at);
-    switch (below(19)) {
+    switch (below(21)) {
     case 0:
         answered(iwarp_add_domain(handle, pd));
+        return;
+    case 19:
+        call_register_as(handle, len);
+        return;
+    case 20:
+        call_register_buffer_as(handle, buffer);
         return;
     case 17:
         call_region_facts(handle, named);
@@ -383,9 +436,10 @@ static void call_in_between(struct iwarp *handle, uint32_t stream) {
     struct iwarp_emission emission;
     uint32_t kept;
     size_t n;
-    switch (below(4)) {
+    switch (below(5)) {
     case 0: answered(iwarp_work(handle, stream, &event)); break;
     case 1: answered(iwarp_work_on(handle, stream, &event)); break;
+    case 3: answered(iwarp_work_within(handle, stream, below(4), &event)); break;
     case 2: answered(iwarp_emit(handle, stream, out, below(2) ? sizeof out : 0, &n, &emission)); break;
     default: answered(iwarp_deliver(handle, stream, below(400), given, below(80), &kept)); break;
     }
@@ -446,6 +500,15 @@ static void call_fill(struct iwarp *handle, uint32_t stream, size_t most, struct
     filled(handle, stream, most, buffer, &filling);
 }
 
+/* Does a step, or steps; perhaps with a share of a pool. */
+static int32_t any_work(struct iwarp *handle, uint32_t stream, struct iwarp_event *event) {
+    switch (below(3)) {
+    case 0: return iwarp_work(handle, stream, event);
+    case 1: return iwarp_work_on(handle, stream, event);
+    default: return iwarp_work_within(handle, stream, below(4) ? below(4) : chance(), event);
+    }
+}
+
 /* Postings, and octets that come and go: those of the one handle to the other, or any. */
 static void call_octets(struct iwarp *handle, struct iwarp *other, struct iwarp_buffer *buffer) {
     static uint8_t frame[66000];
@@ -486,7 +549,10 @@ static void call_octets(struct iwarp *handle, struct iwarp *other, struct iwarp_
         call_due(handle, stream);
         return;
     case 11:
-        if (!answered(iwarp_progress(handle, stream, &progress))) CHECK(progress.sent == MARK);
+        if (!answered(iwarp_progress(handle, stream, &progress)))
+            CHECK(progress.sent == MARK);
+        else
+            CHECK(progress.bound <= 256 && progress.reserved[0] == 0);
         return;
     case 0:
         answered(iwarp_post_send(handle, stream, given, len, any_bits(3), any_stag(), chance()));
@@ -529,7 +595,7 @@ static void call_octets(struct iwarp *handle, struct iwarp *other, struct iwarp_
             CHECK(n == MARK && has(buffer, &later) == had && later == at);
         return;
     default:
-        if (answered(below(2) ? iwarp_work(handle, stream, &event) : iwarp_work_on(handle, stream, &event)))
+        if (answered(any_work(handle, stream, &event)))
             CHECK(event.kind <= IWARP_TRIED && event.reserved[0] == 0);
         else
             CHECK(event.kind == MARK);
@@ -572,6 +638,7 @@ struct sender {
     struct iwarp end;
     uint32_t stag; /* the other end's region */
     uint32_t sink;
+    int pooled; /* its stream takes receive buffers from a pool, of which it has a share */
     uint64_t posted, done;
     uint8_t messages[POSTED][MESSAGE];
     size_t lengths[POSTED];
@@ -602,18 +669,46 @@ static struct sender ends[2];
         CHECK(code == IWARP_OK);                                                    \
     } while (0)
 
-static void begin(struct sender *sender, struct sender *other, uint32_t options) {
+/* Registers a region. If it is the first of a new domain, and its STag is drawn, the bits tell slot and key. */
+static void offer(struct sender *sender, const uint8_t *octets, uint32_t rights, int is_first, uint32_t *stag) {
+    struct iwarp_registration registration = {.size = sizeof registration, .flags = below(2) ? IWARP_DRAWN : 0};
+    registration.pd = DOMAIN;
+    registration.rights = rights;
+    registration.drawn = chance();
+    uint32_t slot = registration.drawn % 1024, key = registration.drawn / 1024 % 255;
+    MUST(iwarp_register_as(&sender->end, &registration, octets, REGION, stag));
+    if (is_first) CHECK(*stag == ((uint32_t)DOMAIN << 24) + (registration.flags ? (slot << 8) + key : 0));
+}
+
+/* Opens the stream, with receive buffers of its own or in a pool. */
+static void open_stream(struct sender *sender, uint32_t options) {
     uint32_t number;
+    sender->pooled = below(2);
+    if (sender->pooled) {
+        MUST(iwarp_share(&sender->end, DOMAIN));
+        MUST(iwarp_open_shared_next(&sender->end, DOMAIN, IWARP_PRESET, options, given, 0, &number));
+    } else {
+        MUST(iwarp_open_next(&sender->end, DOMAIN, IWARP_PRESET, options, given, 0, &number));
+    }
+    CHECK(number == STREAM);
+    for (int i = 0; i < POSTED; i++) {
+        if (sender->pooled)
+            MUST(iwarp_post_shared(&sender->end, DOMAIN, MESSAGE));
+        else
+            MUST(iwarp_post_recv(&sender->end, STREAM, MESSAGE));
+    }
+}
+
+static void begin(struct sender *sender, struct sender *other, uint32_t options) {
     MUST(iwarp_new(&sender->end));
     MUST(iwarp_add_domain(&sender->end, DOMAIN));
     MUST(iwarp_buffer_new(0, &sender->buffer));
     MUST(iwarp_buffer_new(0, &sender->frames));
-    MUST(iwarp_register(&sender->end, DOMAIN, 0, other->written, REGION, IWARP_WRITE | IWARP_READ, &other->stag));
-    MUST(iwarp_register(&sender->end, DOMAIN, 0, sender->written, REGION, IWARP_SINK, &sender->sink));
-    MUST(iwarp_open_next(&sender->end, DOMAIN, IWARP_PRESET, options, given, 0, &number));
-    CHECK(number == STREAM);
+    offer(sender, other->written, IWARP_WRITE | IWARP_READ, 1, &other->stag);
+    offer(sender, sender->written, IWARP_SINK, 0, &sender->sink);
+    CHECK(other->stag >> 8 != sender->sink >> 8);
+    open_stream(sender, options);
     MUST(iwarp_set_mulpdu(&sender->end, STREAM, 128 + below(1500)));
-    for (int i = 0; i < POSTED; i++) MUST(iwarp_post_recv(&sender->end, STREAM, MESSAGE));
 }
 
 /* Has a buffer that messages are posted from as many octets as these, and these. */
@@ -772,11 +867,20 @@ static int shows(struct sender *sender, struct sender *other, size_t n) {
     return memcmp(region, other->written, n) == 0;
 }
 
+/* No more buffers of the pool are bound than Sends are under way. */
+static void shares(struct sender *sender, struct sender *other) {
+    struct iwarp_progress progress;
+    MUST(iwarp_progress(&sender->end, STREAM, &progress));
+    CHECK(progress.bound <= (sender->pooled ? other->sends - other->received : 0));
+}
+
 static void work(struct sender *sender, struct sender *other) {
     struct iwarp_event event;
     size_t n;
+    int within = below(2);
     do {
-        MUST(iwarp_work(&sender->end, STREAM, &event));
+        /* the share is all that are posted to the pool: none is lacking */
+        MUST(within ? iwarp_work_within(&sender->end, STREAM, POSTED, &event) : iwarp_work(&sender->end, STREAM, &event));
         switch (event.kind) {
         case IWARP_DONE:
             CHECK(event.token == sender->done);
@@ -789,6 +893,7 @@ static void work(struct sender *sender, struct sender *other) {
             CHECK(memcmp(out, other->messages[other->received], n) == 0);
             CHECK(shows(sender, other, other->ahead[other->received]));
             other->received++;
+            shares(sender, other);
             break;
         case IWARP_FAULT: case IWARP_TERMINATED: case IWARP_FLUSHED: case IWARP_FLUSHED_RECV:
             CHECK(!"an honest stream ends");

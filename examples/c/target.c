@@ -2,7 +2,8 @@
  * back as many octets of the region as the Send had. `target --help` says how it is run; `iwarp connect --port Q` is its peer.
  *
  * Each connection has a stream, which is opened for it and closed once it is over, and a region that is registered for this
- * stream, so that no peer reaches another's region, whatever STag it names. A domain has room for 1,024 regions, so there is a
+ * stream, so that no peer reaches another's region, whatever STag it names; and the STag is drawn, so that none can guess it. A domain
+ * has room for 1,024 regions, so there is a
  * domain for each 1,024 connections: one more is added when all places are taken. A connection that finds no room is closed, and
  * one for which memory runs out is ended; the others go on. If the system has no descriptor left, connections wait until there is
  * one.
@@ -13,6 +14,7 @@
  * and dropped until the peer closes: a socket that is closed with octets unread resets the connection, and its peer may lose the
  * Terminate. */
 #define MOST_READ 4096 /* as many as a message has at most */
+#include "drawing.h"
 #include "waiting.h"
 
 enum { BUFFER = 4096, REGION = BUFFER, EVENTS = 64, PLACES = 1024, MOST_DOMAINS = 255, MOST_BUFFERS = 1024 };
@@ -45,6 +47,7 @@ static struct connection *free_places;
 static struct iwarp_buffer message = IWARP_NO_BUFFER; /* a receive buffer, between two postings */
 static uint32_t options;
 static int pooled; /* how many buffers a domain's pool has; 0 if each stream has its own */
+static size_t share; /* how many of them a stream may have bound at once; 0: all */
 static int poller, listener, failures;
 static long count, begun, live;
 static int listens; /* whether the listener is watched */
@@ -130,14 +133,22 @@ static int32_t open_stream(struct connection *connection) {
     return iwarp_open_shared_next(&end, domain, IWARP_RESPONDER, options, iwarp_octets(NULL), 0, stream);
 }
 
+/* Registers a connection's region for its stream, by an STag that is drawn. */
+static int32_t offer(struct connection *connection) {
+    struct iwarp_registration registration = {.size = sizeof registration, .flags = IWARP_LIMITED | IWARP_DRAWN};
+    registration.stream = connection->carried.stream;
+    registration.rights = IWARP_WRITE;
+    registration.drawn = random_bits();
+    return iwarp_register_buffer_as(&end, &registration, &connection->region, &connection->stag);
+}
+
 /* Makes what a stream needs: a receive buffer, unless there is a pool, and a region. */
 static int32_t equip(struct connection *connection) {
     uint32_t stream = connection->carried.stream;
     int32_t code = pooled ? IWARP_OK : iwarp_post_recv(&end, stream, BUFFER);
     if (code == IWARP_OK) code = iwarp_buffer_new(0, &connection->carried.frames);
     if (code == IWARP_OK) code = iwarp_buffer_new(REGION, &connection->region);
-    if (code == IWARP_OK)
-        code = iwarp_register_buffer_for(&end, stream, 0, &connection->region, IWARP_WRITE, &connection->stag);
+    if (code == IWARP_OK) code = offer(connection);
     connection->registered = code == IWARP_OK;
     return code;
 }
@@ -307,7 +318,7 @@ static void begin(int fd, int64_t now) {
         return;
     }
     live++;
-    connection->carried = (struct carried){.end = &end, .fd = fd, .frames = IWARP_NO_BUFFER};
+    connection->carried = (struct carried){.end = &end, .fd = fd, .share = share, .frames = IWARP_NO_BUFFER};
     connection->waits_for = EPOLLIN;
     connection->heard = now;
     if (watch(fd, EPOLL_CTL_ADD, EPOLLIN, connection) != 0 || open_stream(connection) != IWARP_OK) {
@@ -369,7 +380,7 @@ static void serve(void) {
 }
 
 static const char usage[] =
-    "usage: target [COUNT [OPTIONS [PORT [BUFFERS [DOMAINS]]]]]\n"
+    "usage: target [--pool-share N] [COUNT [OPTIONS [PORT [BUFFERS [DOMAINS]]]]]\n"
     "\n"
     "Prints `port Q`, serves COUNT connections at that port of 127.0.0.1, and prints a line for each\n"
     "Send that it received, and for each connection that failed, with the reason. The status is 1 if\n"
@@ -381,9 +392,23 @@ static const char usage[] =
     "  BUFFERS  1 to 1024: the streams of a domain share so many receive buffers; 0 if left out:\n"
     "           each stream has its own\n"
     "  DOMAINS  1 to 255, 255 if left out: for each, 1024 connections are served at a time; each\n"
-    "           takes a descriptor (ulimit -n)\n";
+    "           takes a descriptor (ulimit -n)\n"
+    "\n"
+    "  --pool-share N   1 to 1024: of the BUFFERS that streams share, each may have so many bound to\n"
+    "                   Sends at once; one more ends that stream alone. As many as there are if left out\n";
+
+/* Takes the option in front of the other words, if it is there: then these begin behind it. */
+static size_t share_of(int *n, char ***all) {
+    if (*n < 2 || strcmp((*all)[1], "--pool-share") != 0) return 0;
+    struct words words = words_of(*n < 3 ? *n : 3, *all, 2, 2, usage);
+    size_t number = (size_t)number_of(&words, 1, 1, MOST_BUFFERS, 0);
+    *n -= 2;
+    *all += 2;
+    return number;
+}
 
 int main(int n, char **all) {
+    share = share_of(&n, &all);
     struct words words = words_of(n, all, 0, 5, usage);
     count = number_of(&words, 0, 0, 1000000000, 1);
     options = (uint32_t)number_of(&words, 1, 0, IWARP_MARKERS | IWARP_CRC | IWARP_ENHANCED, 0);

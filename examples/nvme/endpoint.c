@@ -1,6 +1,8 @@
 /* The calls of the library. */
 #include "endpoint.h"
 
+#include "../c/drawing.h"
+
 /* Messages are told in posting order, so the target knows them without a token. */
 enum { NO_TOKEN = 0, READ_AT_ONCE = 65536, GATHERED = 131072 };
 
@@ -132,7 +134,11 @@ int32_t endpoint_register(struct endpoint *endpoint, uint64_t base, struct iwarp
 }
 
 int32_t endpoint_sink(struct endpoint *endpoint, struct iwarp_buffer *buffer, uint32_t *stag) {
-    return iwarp_register_buffer_for(endpoint->handle, endpoint->stream, 0, buffer, IWARP_SINK, stag);
+    struct iwarp_registration registration = {.size = sizeof registration, .flags = IWARP_LIMITED | IWARP_DRAWN};
+    registration.stream = endpoint->stream;
+    registration.rights = IWARP_SINK;
+    registration.drawn = random_bits();
+    return iwarp_register_buffer_as(endpoint->handle, &registration, buffer, stag);
 }
 
 int32_t endpoint_take_back(struct endpoint *endpoint, uint32_t stag, struct iwarp_buffer *buffer) {

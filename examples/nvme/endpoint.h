@@ -66,7 +66,7 @@ int32_t endpoint_write_buffer(struct endpoint *endpoint, uint32_t stag, uint64_t
 int32_t endpoint_fetch_sent(struct endpoint *endpoint, struct iwarp_buffer *buffer);
 
 /* Registers a buffer's octets, the first at tagged offset `base`: for all streams of the domain, or as a sink for this stream
- * alone, the first at 0. */
+ * alone, the first at 0, by an STag that is drawn, since the peer sees it. */
 int32_t endpoint_register(struct endpoint *endpoint, uint64_t base, struct iwarp_buffer *buffer, uint32_t rights, uint32_t *stag);
 int32_t endpoint_sink(struct endpoint *endpoint, struct iwarp_buffer *buffer, uint32_t *stag);
 
