@@ -36,6 +36,8 @@ pub struct Connection<S> {
     frames: Option<Buffer>,
     most_read: usize,
     most_written: usize,
+    // How many buffers of its domain's pool the stream may have bound at once; none: as many as there are.
+    share: Option<usize>,
     // The peer's Request was told. Whether it was answered the stream's state says.
     asked: bool,
     // A Read of the peer's was denied when it was to be answered, which is still to be told.
@@ -121,11 +123,18 @@ impl<S> Connection<S> {
             frames: None,
             most_read: most_read.max(1),
             most_written,
+            share: None,
             asked: false,
             denied: None,
             told_ended: false,
             broken: false,
         }
+    }
+
+    /// Gives the stream a share of its domain's pool: from now on it works by [`Handle::work_within`]. At first it has none, and may take
+    /// all of the pool.
+    pub fn set_share(&mut self, share: Option<usize>) {
+        self.share = share;
     }
 
     /// Its stream.
@@ -157,7 +166,10 @@ impl<S> Connection<S> {
             return Ok(Some(Event::Fault(fault)));
         }
         loop {
-            let event = end.work_on(self.stream)?;
+            let event = match self.share {
+                Some(share) => end.work_within(self.stream, share)?,
+                None => end.work_on(self.stream)?,
+            };
             self.asked |= event == Event::Asked;
             match event {
                 Event::Idle => return Ok(None),

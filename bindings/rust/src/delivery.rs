@@ -165,6 +165,18 @@ impl Handle {
         Ok(Event::of(&event))
     }
 
+    /// As [`work_on`](Handle::work_on), with a share of the domain's pool: the stream may have at most `share` of its buffers bound at once
+    /// (RFC 5042 6.4.3.1; [`Progress::bound`](crate::Progress::bound) tells how many it has). A Send that would bind one more ends the
+    /// stream, as one that finds the pool empty does. To a stream with receive buffers of its own the share means nothing.
+    ///
+    /// Errors: as there.
+    pub fn work_within(&mut self, stream: Stream, share: usize) -> Result<Event> {
+        let mut event = raw::iwarp_event::default();
+        // SAFETY: the handle is as the last call on it left it; `event` is a local.
+        done(unsafe { raw::iwarp_work_within(self.at(), stream.number(), share, &mut event) })?;
+        Ok(Event::of(&event))
+    }
+
     /// Copies the message or buffer that was told last on this stream to the front of `out`, and forgets it. Returns how many octets
     /// it has; 0 if there is none. Errors: `NoSuchStream`; `NoRoom`: it can still be fetched.
     pub fn fetch(&mut self, stream: Stream, out: &mut [u8]) -> Result<usize> {

@@ -26,4 +26,4 @@ pub use event::{Emission, Event, FillStop, Filling, Message};
 pub use fault::{Fault, StartupFault};
 pub use handle::{version, Handle};
 pub use names::{Domain, Stag, Stream};
-pub use told::{Delivery, Enhanced, Facts, Progress, ReadRequest, Role, SendOptions, State, Told};
+pub use told::{Delivery, Enhanced, Facts, Progress, ReadRequest, Registration, Role, Scope, SendOptions, State, Told};

@@ -66,7 +66,7 @@ macro_rules! functions {
 
 constants! {
     u32 {
-        IWARP_VERSION = 10100,
+        IWARP_VERSION = 10200,
     }
     i32 {
         IWARP_OK = 0,
@@ -116,6 +116,8 @@ constants! {
         IWARP_READ = 2,
         IWARP_SINK = 4,
         IWARP_INVALIDATE = 8,
+        IWARP_LIMITED = 1,
+        IWARP_DRAWN = 2,
         IWARP_PRESET = 0,
         IWARP_INITIATOR = 1,
         IWARP_RESPONDER = 2,
@@ -280,6 +282,19 @@ structs! {
         reserved: [u64; 4],
     }
 
+    /// A region to register.
+    #[derive(Default)]
+    struct iwarp_registration {
+        size: usize,
+        flags: u64,
+        base: u64,
+        rights: u32,
+        pd: u32,
+        stream: u32,
+        drawn: u32,
+        reserved: [u64; 4],
+    }
+
     /// What a step of work did.
     #[derive(Default)]
     struct iwarp_event {
@@ -332,7 +347,8 @@ structs! {
         sent: u64,
         in_order: u64,
         due: u64,
-        reserved: [u64; 4],
+        bound: u64,
+        reserved: [u64; 3],
     }
 }
 
@@ -381,6 +397,19 @@ functions! {
         base: u64,
         buffer: *mut iwarp_buffer,
         rights: u32,
+        stag: *mut u32,
+    ) -> i32;
+    fn iwarp_register_as(
+        handle: *mut iwarp,
+        registration: *const iwarp_registration,
+        octets: *const u8,
+        n: usize,
+        stag: *mut u32,
+    ) -> i32;
+    fn iwarp_register_buffer_as(
+        handle: *mut iwarp,
+        registration: *const iwarp_registration,
+        buffer: *mut iwarp_buffer,
         stag: *mut u32,
     ) -> i32;
     fn iwarp_deregister_buffer(handle: *mut iwarp, stag: u32, buffer: *mut iwarp_buffer) -> i32;
@@ -512,6 +541,7 @@ functions! {
     fn iwarp_came(handle: *mut iwarp, stream: u32, n: usize) -> i32;
     fn iwarp_work(handle: *mut iwarp, stream: u32, event: *mut iwarp_event) -> i32;
     fn iwarp_work_on(handle: *mut iwarp, stream: u32, event: *mut iwarp_event) -> i32;
+    fn iwarp_work_within(handle: *mut iwarp, stream: u32, share: usize, event: *mut iwarp_event) -> i32;
     fn iwarp_fetch(handle: *mut iwarp, stream: u32, out: *mut u8, room: usize, n: *mut usize) -> i32;
     fn iwarp_fetch_buffer(handle: *mut iwarp, stream: u32, buffer: *mut iwarp_buffer, n: *mut usize) -> i32;
     fn iwarp_fetch_sent(handle: *mut iwarp, stream: u32, buffer: *mut iwarp_buffer) -> i32;

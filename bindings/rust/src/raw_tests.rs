@@ -57,6 +57,7 @@ in_c! {
     *mut iwarp_peer = "struct iwarp_peer *",
     *const iwarp_options = "const struct iwarp_options *",
     *const iwarp_posting = "const struct iwarp_posting *",
+    *const iwarp_registration = "const struct iwarp_registration *",
 }
 
 /// A C program that compiles only if the header says the same.

@@ -1,6 +1,6 @@
 //! Regions: octets that peers may use.
 use crate::error::{done, done_with_room};
-use crate::{raw, Buffer, Domain, Facts, Handle, Refused, Result, Rights, Stag, Stream};
+use crate::{raw, Buffer, Domain, Facts, Handle, Refused, Registration, Result, Rights, Stag, Stream};
 use std::{ptr, slice};
 
 /// ## Regions
@@ -65,6 +65,33 @@ impl Handle {
         self.give(buffer, |handle, buffer| {
             // SAFETY: handle and buffer are as the last calls on them left them; `stag` is a local.
             unsafe { raw::iwarp_register_buffer_for(handle, stream.number(), base, buffer, rights.bits(), &mut stag) }
+        })?;
+        Ok(Stag::new(stag))
+    }
+
+    /// Registers a copy of the octets, for a domain or a stream, by an STag that is drawn if the registration says so.
+    ///
+    /// The first region of a domain whose STag is drawn may take the memory for all the domain's slots, 24,576 octets.
+    ///
+    /// Errors: as [`register`](Handle::register) or [`register_for`](Handle::register_for).
+    pub fn register_as(&mut self, registration: Registration, octets: &[u8]) -> Result<Stag> {
+        let mut stag = 0;
+        let described = registration.in_c();
+        let (at, n) = (octets.as_ptr(), octets.len());
+        // SAFETY: the handle is as the last call on it left it; `n` octets stand at `at`; the two others are locals.
+        done(unsafe { raw::iwarp_register_as(self.at(), &described, at, n, &mut stag) })?;
+        Ok(Stag::new(stag))
+    }
+
+    /// Registers the buffer's octets themselves, as [`register_as`](Handle::register_as) does a copy.
+    ///
+    /// Errors: as there, but `NoMemory` comes last. The buffer comes back with the error.
+    pub fn register_buffer_as(&mut self, registration: Registration, buffer: Buffer) -> Result<Stag, Refused> {
+        let mut stag = 0;
+        let described = registration.in_c();
+        self.give(buffer, |handle, buffer| {
+            // SAFETY: handle and buffer are as the last calls on them left them; the two others are locals.
+            unsafe { raw::iwarp_register_buffer_as(handle, &described, buffer, &mut stag) }
         })?;
         Ok(Stag::new(stag))
     }

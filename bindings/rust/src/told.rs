@@ -1,6 +1,7 @@
 //! What regions and streams tell.
 use crate::raw;
-use crate::{Rights, Stag, Stream};
+use crate::{Domain, Rights, Stag, Stream};
+use std::mem;
 
 /// The facts of a region.
 #[derive(Clone, Copy, Debug, PartialEq, Eq, Hash)]
@@ -26,6 +27,50 @@ impl Facts {
             rights: Rights::from_bits(facts.rights),
             valid: facts.valid != 0,
             stream: (facts.limited != 0).then_some(Stream::new(facts.stream)),
+        }
+    }
+}
+
+/// Who may use a region, within its rights.
+#[derive(Clone, Copy, Debug, PartialEq, Eq, Hash)]
+pub enum Scope {
+    /// The peers of all streams of a domain.
+    Domain(Domain),
+    /// The peer of one stream: to those of others the STag is as one of another domain (RFC 5042 6.1.1). When the stream is closed the
+    /// region becomes invalid, and stays registered.
+    Stream(Stream),
+}
+
+/// How a region is registered ([`Handle::register_as`](crate::Handle::register_as)).
+#[derive(Clone, Copy, Debug, PartialEq, Eq, Hash)]
+pub struct Registration {
+    /// Who may use it.
+    pub scope: Scope,
+    /// The tagged offset of its first octet.
+    pub base: u64,
+    /// What it may be used for.
+    pub rights: Rights,
+    /// Random bits, new for each region, by which its STag is drawn: no peer can tell the next one (RFC 5042 6.1.1). Without them it is
+    /// one that a peer can guess.
+    pub drawn: Option<u32>,
+}
+
+impl Registration {
+    pub(crate) fn in_c(self) -> raw::iwarp_registration {
+        let (limited, pd, stream) = match self.scope {
+            Scope::Domain(domain) => (0, domain.number(), 0),
+            Scope::Stream(stream) => (raw::IWARP_LIMITED, 0, stream.number()),
+        };
+        let drawn = if self.drawn.is_some() { raw::IWARP_DRAWN } else { 0 };
+        raw::iwarp_registration {
+            size: mem::size_of::<raw::iwarp_registration>(),
+            flags: u64::from(limited | drawn),
+            base: self.base,
+            rights: self.rights.bits(),
+            pd,
+            stream,
+            drawn: self.drawn.unwrap_or(0),
+            reserved: [0; 4],
         }
     }
 }
@@ -137,11 +182,13 @@ pub struct Progress {
     pub in_order: u64,
     /// Of the next frame, which the next call of [`Handle::emit`](crate::Handle::emit) gives; 0 if it gives none.
     pub due: u64,
+    /// How many buffers of its domain's pool it has bound ([`Handle::work_within`](crate::Handle::work_within)).
+    pub bound: u64,
 }
 
 impl Progress {
     pub(crate) fn of(progress: &raw::iwarp_progress) -> Self {
-        Self { sent: progress.sent, in_order: progress.in_order, due: progress.due }
+        Self { sent: progress.sent, in_order: progress.in_order, due: progress.due, bound: progress.bound }
     }
 }
 

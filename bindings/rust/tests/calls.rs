@@ -1,7 +1,7 @@
 //! Each call of a handle: what it does, and what it is refused with.
 use iwarp::{
-    Agreed, Buffer, Delivery, Domain, Emission, Error, Event, FillStop, Handle, Message, Options, ReadRequest, Result,
-    Rights, Role, SendOptions, Stag, State, Stream,
+    Agreed, Buffer, Delivery, Domain, Emission, Error, Event, Fault, FillStop, Handle, Message, Options, ReadRequest,
+    Registration, Result, Rights, Role, Scope, SendOptions, Stag, State, Stream,
 };
 
 const NONE: SendOptions = SendOptions { solicited: false, invalidate: None };
@@ -121,6 +121,41 @@ fn a_buffer_becomes_a_region_and_comes_back() -> Result<()> {
     assert_eq!(end.handle.facts(stag)?.stream, Some(end.stream));
     let gone = end.handle.register_buffer_for(Stream::new(99), 0, Buffer::new(1)?, Rights::READ).unwrap_err();
     assert_eq!(gone.error, Error::NoSuchStream);
+    Ok(())
+}
+
+/// The bits tell the slot and the key of the first STag of a domain. The same bits give no STag again.
+#[test]
+fn stags_are_drawn() -> Result<()> {
+    let [mut end, _] = ends()?;
+    let (slot, key) = (1000, 200);
+    let of_domain = Registration {
+        scope: Scope::Domain(end.domain),
+        base: 7,
+        rights: Rights::READ,
+        drawn: Some(key * 1024 + slot),
+    };
+    let first = end.handle.register_as(of_domain, b"one")?;
+    assert_eq!(first.number(), (1 << 24) + (slot << 8) + key);
+    assert_eq!(end.handle.facts(first)?.base, 7);
+    assert_eq!(&end.handle.deregister(first)?[..], b"one");
+    let second = end.handle.register_as(of_domain, b"two")?;
+    assert_ne!(second, first);
+    assert_eq!(second.number() >> 8, first.number() >> 8);
+
+    let of_stream = Registration { scope: Scope::Stream(end.stream), ..of_domain };
+    let third =
+        end.handle.register_buffer_as(of_stream, Buffer::copy_of(b"three")?).map_err(|refused| refused.error)?;
+    assert_eq!(third.number() >> 8, (second.number() >> 8) + 1);
+    assert_eq!(end.handle.facts(third)?.stream, Some(end.stream));
+    let plain = end.handle.register_as(Registration { drawn: None, ..of_domain }, b"four")?;
+    assert_eq!(plain.number(), 1 << 24);
+
+    let gone = Registration { scope: Scope::Stream(Stream::new(99)), ..of_domain };
+    let refused = end.handle.register_buffer_as(gone, Buffer::copy_of(b"back")?).unwrap_err();
+    assert_eq!((refused.error, &refused.buffer[..]), (Error::NoSuchStream, &b"back"[..]));
+    let bits = Registration { rights: Rights::from_bits(64), ..of_domain };
+    assert_eq!(end.handle.register_as(bits, b""), Err(Error::BadBits));
     Ok(())
 }
 
@@ -335,6 +370,34 @@ fn streams_of_a_domain_share_a_pool() -> Result<()> {
     assert_eq!((received.octets(), received.buffer.len()), (&b"hello"[..], 8));
     assert_eq!(b.handle.take_shared_buffer(b.domain)?.as_deref(), Some(&b"spare"[..]));
     assert!(b.handle.take_shared_buffer(b.domain)?.is_none());
+    Ok(())
+}
+
+/// Of two Sends the second comes first, which binds a buffer of the pool. With a share of one the first then finds none.
+#[test]
+fn a_stream_keeps_to_its_share_of_a_pool() -> Result<()> {
+    for share in [1, 2] {
+        let [mut a, mut b] = ends()?;
+        b.handle.share(b.domain)?;
+        for _ in 0..2 {
+            b.handle.post_shared(b.domain, 600)?;
+        }
+        a.stream = a.handle.open_next(a.domain, Role::Preset, Options::MARKERS, b"")?;
+        b.stream = b.handle.open_shared_next(b.domain, Role::Preset, Options::MARKERS, b"")?;
+        let (mut one, mut two) = ([0; 700], [0; 700]);
+        a.handle.post_send(a.stream, &[7; 600], NONE, 0)?;
+        a.handle.post_send(a.stream, &[8; 600], NONE, 0)?;
+        let (_, n) = a.handle.emit(a.stream, &mut one)?;
+        let (_, m) = a.handle.emit(a.stream, &mut two)?;
+        assert_eq!(b.handle.deliver(b.stream, n as u32, &two[..m])?, Delivery::Kept);
+        assert_eq!(b.handle.work_within(b.stream, share)?, Event::Idle);
+        assert_eq!(b.handle.progress(b.stream)?.bound, 1);
+        assert_eq!(b.handle.deliver(b.stream, 0, &one[..n])?, Delivery::Kept);
+        match b.handle.work_within(b.stream, share)? {
+            Event::Fault(fault) => assert_eq!((share, fault), (1, Fault::UNTAGGED_NO_BUFFER)),
+            event => assert!(share == 2 && matches!(event, Event::Received { len: 600, .. }), "{event:?}"),
+        }
+    }
     Ok(())
 }
 
