@@ -299,7 +299,7 @@ front_few s fault = go (fore s)
         (terminate_few fault (take 46 (standing s frame).ulpdu) (length (standing s frame).ulpdu) (is_request_of s.asked (standing s frame).ulpdu))
 
 -- a stream that is found to have a fault runs, and is open
-record IsRunningOpen (s : StreamState) : Type 0 where
+pub record IsRunningOpen (s : StreamState) : Type 0 where
   pub running : ended s ≡ false
   pub started : is_open s.start ≡ true
 
