@@ -1,7 +1,7 @@
 //! Streams of one domain that share a pool, each with a share of its buffers.
 
 use bytes::Bytes;
-use iw_connection::{Endpoint, Step, StreamNumber, fill, next, next_within};
+use iw_connection::{Endpoint, Octets, Step, StreamNumber, fill, next, next_within};
 use iw_endpoint::{Config, Establishment, Fault, Message, PrivateData, Request, Role};
 use std::alloc::Global;
 use std::test::Fail;
@@ -12,10 +12,8 @@ const GREEDY: StreamNumber = 0;
 
 const MODEST: StreamNumber = 1;
 
-// How many buffers the pool has, and how many of them one stream may have.
+// How many buffers the pool has.
 const POOL: u32 = 8;
-
-const SHARE: usize = 4;
 
 // What was told of a stream.
 #[derive(Clone, Copy, Debug, PartialEq, Eq)]
@@ -23,6 +21,35 @@ struct Seen {
     received: u32,
     flushed: u32,
     fault: Option<Fault>,
+}
+
+const NOTHING: Seen = Seen {
+    received: 0,
+    flushed: 0,
+    fault: None,
+};
+
+impl Seen {
+    // Takes note of a step, and tells whether there was one.
+    fn is_told(&mut self, step: Step<Octets>) -> bool {
+        match step {
+            Step::Received { .. } => self.received = self.received.saturating_add(1),
+            Step::FlushedRecv(_) => self.flushed = self.flushed.saturating_add(1),
+            Step::Fault(fault) => self.fault = Some(fault),
+            Step::Idle => return false,
+            _ => {}
+        }
+        true
+    }
+}
+
+// What comes of two streams: the greedy one's octets come behind a hole, and then the first frame, and all of the modest one's.
+#[derive(Clone, Copy, Debug, PartialEq, Eq)]
+struct Story {
+    hole: Seen,
+    bound: usize,
+    ended: Seen,
+    modest: Seen,
 }
 
 // What a peer sends: the first frame, which may come late, and the others.
@@ -58,56 +85,77 @@ fn post(endpoint: &mut Endpoint, alloc: Global) -> Result<(), Fail> {
     Ok(())
 }
 
-// The frames of `n` Sends of one octet.
-fn sends(alloc: Global, n: u32) -> Result<Wire, Fail> {
-    let mut endpoint = Endpoint::new(alloc);
+fn open_sender(endpoint: &mut Endpoint) -> Result<(), Fail> {
     endpoint.add_domain(DOMAIN)?;
     endpoint.open(GREEDY, DOMAIN, Role::Preset, config())?;
+    Ok(())
+}
+
+fn post_all(endpoint: &mut Endpoint, alloc: Global, n: u32) -> Result<(), Fail> {
     for _ in 0..n {
-        post(&mut endpoint, alloc)?;
+        post(endpoint, alloc)?;
     }
-    let mut first = Vec::new(alloc);
-    fill(&mut endpoint, GREEDY, &mut first, 0)?;
-    let mut others = Vec::new(alloc);
-    fill(&mut endpoint, GREEDY, &mut others, usize::MAX)?;
+    Ok(())
+}
+
+fn frames(endpoint: &mut Endpoint, alloc: Global, most: usize) -> Result<Vec<u8>, Fail> {
+    let mut out = Vec::new(alloc);
+    fill(endpoint, GREEDY, &mut out, most)?;
+    Ok(out)
+}
+
+fn emitted(endpoint: &mut Endpoint, alloc: Global) -> Result<Wire, Fail> {
+    let first = frames(endpoint, alloc, 0)?;
+    let others = frames(endpoint, alloc, usize::MAX)?;
     Ok(Wire { first, others })
 }
 
-// An endpoint with two streams that share a pool.
-fn served(alloc: Global) -> Result<Endpoint, Fail> {
+// The frames of `n` Sends of one octet.
+fn sends(alloc: Global, n: u32) -> Result<Wire, Fail> {
     let mut endpoint = Endpoint::new(alloc);
-    endpoint.add_domain(DOMAIN)?;
-    endpoint.share(DOMAIN)?;
+    open_sender(&mut endpoint)?;
+    post_all(&mut endpoint, alloc, n)?;
+    emitted(&mut endpoint, alloc)
+}
+
+fn post_buffers(endpoint: &mut Endpoint, alloc: Global) -> Result<(), Fail> {
     for _ in 0..POOL {
         endpoint.post_shared(DOMAIN, vec![in alloc; 0u8; 16]?)?;
     }
-    endpoint.open_shared(GREEDY, DOMAIN, Role::Preset, config())?;
-    endpoint.open_shared(MODEST, DOMAIN, Role::Preset, config())?;
-    Ok(endpoint)
+    Ok(())
 }
 
-// Works until nothing is left to do. Without a share the stream may have the whole pool.
+// Two streams that share a pool.
+fn open_both(endpoint: &mut Endpoint) -> Result<(), Fail> {
+    endpoint.add_domain(DOMAIN)?;
+    endpoint.share(DOMAIN)?;
+    endpoint.open_shared(GREEDY, DOMAIN, Role::Preset, config())?;
+    endpoint.open_shared(MODEST, DOMAIN, Role::Preset, config())?;
+    Ok(())
+}
+
+// The next step. Without a share the stream may have the whole pool.
+fn stepped(
+    endpoint: &mut Endpoint,
+    number: StreamNumber,
+    share: Option<usize>,
+) -> Result<Step<Octets>, Fail> {
+    match share {
+        Some(share) => Ok(next_within(endpoint, number, share)?),
+        None => Ok(next(endpoint, number)?),
+    }
+}
+
+// Works until nothing is left to do.
 fn worked(
     endpoint: &mut Endpoint,
     number: StreamNumber,
     share: Option<usize>,
 ) -> Result<Seen, Fail> {
-    let mut seen = Seen {
-        received: 0,
-        flushed: 0,
-        fault: None,
-    };
+    let mut seen = NOTHING;
     for _ in 0..u64::MAX {
-        let step = match share {
-            Some(share) => next_within(endpoint, number, share)?,
-            None => next(endpoint, number)?,
-        };
-        match step {
-            Step::Received { .. } => seen.received = seen.received.saturating_add(1),
-            Step::FlushedRecv(_) => seen.flushed = seen.flushed.saturating_add(1),
-            Step::Fault(fault) => seen.fault = Some(fault),
-            Step::Idle => break,
-            _ => {}
+        if !seen.is_told(stepped(endpoint, number, share)?) {
+            break;
         }
     }
     Ok(seen)
@@ -134,51 +182,80 @@ fn in_order(endpoint: &mut Endpoint, wire: &Wire, share: Option<usize>) -> Resul
     worked(endpoint, MODEST, share)
 }
 
-const NOTHING: Seen = Seen {
-    received: 0,
-    flushed: 0,
-    fault: None,
-};
+fn story(
+    endpoint: &mut Endpoint,
+    many: &Wire,
+    few: &Wire,
+    share: Option<usize>,
+) -> Result<Story, Fail> {
+    let hole = behind_a_hole(endpoint, many, share)?;
+    let bound = endpoint.bound_buffers(GREEDY)?;
+    let ended = with_the_first(endpoint, many, share)?;
+    let modest = in_order(endpoint, few, share)?;
+    Ok(Story {
+        hole,
+        bound,
+        ended,
+        modest,
+    })
+}
+
+fn served(alloc: Global, many: &Wire, few: &Wire, share: Option<usize>) -> Result<Story, Fail> {
+    let mut endpoint = Endpoint::new(alloc);
+    open_both(&mut endpoint)?;
+    post_buffers(&mut endpoint, alloc)?;
+    story(&mut endpoint, many, few, share)
+}
+
+fn told(alloc: Global, share: Option<usize>) -> Result<Story, Fail> {
+    let many = sends(alloc, 60)?;
+    let few = sends(alloc, 3)?;
+    served(alloc, &many, &few, share)
+}
 
 #[test]
 fn a_stream_that_wants_more_than_its_share_ends_alone(rt: HostRuntime) -> Result<(), Fail> {
-    let share = Some(SHARE);
-    let many = sends(rt.alloc(), 60)?;
-    let few = sends(rt.alloc(), 3)?;
-    let mut endpoint = served(rt.alloc())?;
-    assert_eq!(rt; behind_a_hole(&mut endpoint, &many, share)?, NOTHING);
-    assert_eq!(rt; endpoint.bound_buffers(GREEDY)?, SHARE);
-    let ended = with_the_first(&mut endpoint, &many, share)?;
-    assert_eq!(rt; ended.fault, Some(Fault::UNTAGGED_NO_BUFFER));
-    assert_eq!(rt; ended.received, 0);
-    assert_eq!(rt; ended.flushed as usize, SHARE);
-    let received = in_order(&mut endpoint, &few, share)?;
-    assert_eq!(rt; received.received, 3);
-    assert_eq!(rt; received.fault, None);
-    assert_eq!(rt; endpoint.bound_buffers(MODEST)?, 0);
+    let story = told(rt.alloc(), Some(4))?;
+    assert_eq!(rt; story.hole, NOTHING);
+    assert_eq!(rt; story.bound, 4);
+    assert_eq!(rt;
+        story.ended,
+        Seen {
+            received: 0,
+            flushed: 4,
+            fault: Some(Fault::UNTAGGED_NO_BUFFER)
+        }
+    );
+    assert_eq!(rt;
+        story.modest,
+        Seen {
+            received: 3,
+            flushed: 0,
+            fault: None
+        }
+    );
     Ok(())
 }
 
 #[test]
 fn without_shares_one_stream_takes_the_pool(rt: HostRuntime) -> Result<(), Fail> {
-    let many = sends(rt.alloc(), 60)?;
-    let few = sends(rt.alloc(), 3)?;
-    let mut endpoint = served(rt.alloc())?;
-    assert_eq!(rt; behind_a_hole(&mut endpoint, &many, None)?, NOTHING);
-    assert_eq!(rt; endpoint.bound_buffers(GREEDY)?, POOL as usize);
-    let refused = in_order(&mut endpoint, &few, None)?;
-    assert_eq!(rt; refused.fault, Some(Fault::UNTAGGED_NO_BUFFER));
+    let story = told(rt.alloc(), None)?;
+    assert_eq!(rt; story.bound, 8);
+    assert_eq!(rt; story.modest.fault, Some(Fault::UNTAGGED_NO_BUFFER));
     Ok(())
 }
 
 #[test]
-fn a_stream_within_its_share_goes_on(rt: HostRuntime) -> Result<(), Fail> {
-    let share = Some(1);
-    let many = sends(rt.alloc(), 8)?;
-    let mut endpoint = served(rt.alloc())?;
-    let received = in_order(&mut endpoint, &many, share)?;
-    assert_eq!(rt; received.received, 8);
-    assert_eq!(rt; received.fault, None);
-    assert!(rt; endpoint.bound_buffers(2).is_err());
+fn a_share_of_one_is_enough_in_order(rt: HostRuntime) -> Result<(), Fail> {
+    let story = told(rt.alloc(), Some(1))?;
+    assert_eq!(rt; story.bound, 1);
+    assert_eq!(rt;
+        story.modest,
+        Seen {
+            received: 3,
+            flushed: 0,
+            fault: None
+        }
+    );
     Ok(())
 }
