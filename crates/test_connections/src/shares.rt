@@ -182,7 +182,7 @@ fn in_order(endpoint: &mut Endpoint, wire: &Wire, share: Option<usize>) -> Resul
     worked(endpoint, MODEST, share)
 }
 
-fn story(
+fn told_story(
     endpoint: &mut Endpoint,
     many: &Wire,
     few: &Wire,
@@ -204,7 +204,7 @@ fn served(alloc: Global, many: &Wire, few: &Wire, share: Option<usize>) -> Resul
     let mut endpoint = Endpoint::new(alloc);
     open_both(&mut endpoint)?;
     post_buffers(&mut endpoint, alloc)?;
-    story(&mut endpoint, many, few, share)
+    told_story(&mut endpoint, many, few, share)
 }
 
 fn told(alloc: Global, share: Option<usize>) -> Result<Story, Fail> {
