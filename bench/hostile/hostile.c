@@ -5,8 +5,9 @@
  * First each way to make an endpoint hold memory, with 20 streams that do nothing else. Then eight honest streams, by turns alone
  * at one endpoint and, at another, beside a hundred hostile ones, 20 of each way, which are closed and opened anew without end. What
  * an octet of the honest ones costs must not grow by more than a quarter, and no honest stream may end; that is so where streams have receive
- * buffers of their own, or honest ones and strangers a pool each. With one pool for all, strangers take its buffers: that is shown
- * too. The status is 1 if a limit is missed. */
+ * buffers of their own, where honest ones and strangers have a pool each, and where all share a pool of which each stream may bind its
+ * share (iwarp_work_within). With one pool for all and no shares, strangers take its buffers: that is shown too. The status is 1 if a
+ * limit is missed. */
 #define _POSIX_C_SOURCE 199309L
 #include "../../include/iwarp.h"
 #include <malloc.h>
@@ -28,10 +29,11 @@ static const char *const names[WAYS] = {
     "islands of one octet", "buffers bound by Sends whose turn never comes", "Reads that are never taken",
     "start-up frames that never end", "markers that lie, behind a hole",
 };
-enum { HOSTILE = OF_EACH * WAYS };
+enum { HOSTILE = OF_EACH * WAYS, SHARE = POOL / (HONEST + HOSTILE) };
 
-/* Where receive buffers come from: each stream has its own; all share a pool; strangers share one, and honest peers another. */
-enum sharing { OWN, ONE_POOL, POOL_EACH };
+/* Where receive buffers come from: each stream has its own; all share a pool; strangers share one, and honest peers another; all share
+ * a pool, and each stream binds at most its share. */
+enum sharing { OWN, ONE_POOL, POOL_EACH, BY_SHARE };
 
 static void must(int is_so, const char *what) {
     if (is_so) return;
@@ -189,6 +191,11 @@ static void tear_down(struct place *place) {
     iwarp_free(&place->server);
 }
 
+static int32_t work_on(struct place *place, uint32_t stream, struct iwarp_event *event) {
+    if (place->sharing == BY_SHARE) return iwarp_work_within(&place->server, stream, SHARE, event);
+    return iwarp_work_on(&place->server, stream, event);
+}
+
 /* Works until there is nothing to do. Returns whether the stream has ended. */
 static int work_off(struct place *place, uint32_t domain, uint32_t stream) {
     static uint8_t message[BUFFER];
@@ -196,7 +203,7 @@ static int work_off(struct place *place, uint32_t domain, uint32_t stream) {
     size_t n;
     int has_ended = 0;
     do {
-        must(iwarp_work_on(&place->server, stream, &event) == IWARP_OK, "work_on");
+        must(work_on(place, stream, &event) == IWARP_OK, "work_on");
         if (event.kind == IWARP_FAULT || event.kind == IWARP_TERMINATED || event.kind == IWARP_CLOSED_BY_PEER) has_ended = 1;
         if (event.kind != IWARP_RECEIVED && event.kind != IWARP_FLUSHED_RECV) continue;
         must(iwarp_fetch(&place->server, stream, message, sizeof message, &n) == IWARP_OK, "fetch");
@@ -363,7 +370,7 @@ static void tell_strangers(const struct place *place) {
     printf(" ns\n");
 }
 
-/* With one pool the honest streams are not asked for anything. */
+/* With one pool and no shares the honest streams are not asked for anything. */
 static int tell_speed(const char *what, enum sharing sharing, double lasts) {
     static struct place alone, beside;
     double costs[2];
@@ -390,8 +397,9 @@ int main(int count, char **words) {
     make_octets();
     printf("held at most, octets a stream of %d:\n", OF_EACH);
     for (int way = 0; way < WAYS; way++) missed += tell_held((enum way)way);
-    missed += tell_speed("receive buffers of their own", OWN, lasts / 3);
-    missed += tell_speed("a pool for honest peers, another for strangers", POOL_EACH, lasts / 3);
-    missed += tell_speed("one pool for all", ONE_POOL, lasts / 3);
+    missed += tell_speed("receive buffers of their own", OWN, lasts / 4);
+    missed += tell_speed("a pool for honest peers, another for strangers", POOL_EACH, lasts / 4);
+    missed += tell_speed("one pool for all, by shares", BY_SHARE, lasts / 4);
+    missed += tell_speed("one pool for all", ONE_POOL, lasts / 4);
     return missed != 0;
 }
