@@ -255,7 +255,7 @@ fn work_within(
     n: usize,
     share: usize,
 ) -> Result<u32, Fail> {
-    let number = ((u64::from(FIRST) + past as u64) % (1 << 32)) as u32;
+    let number = (u64::from(FIRST).wrapping_add(past as u64) % (1 << 32)) as u32;
     if n <= frame.len() {
         let _ = end.handle.deliver(alloc, STREAM, number, &frame[..n])?;
     }
