@@ -1,7 +1,8 @@
 -- Past the last place that may have a buffer.
-use Rattle.std.proofs.Common.{◌≡◌, ℕ, zero, suc, ◌+◌, ◌-◌, ◌<◌, ◌≤◌, Option, None, List, [], ◌∷◌, ◌++◌, drop, replicate, get_or, refl, sym, ap, ◌∙◌, arith, inl, inr}
-use Rattle.std.specs.Prelude.{slice_set, slice_index_or}
+use Rattle.std.proofs.Common.{◌≡◌, ℕ, zero, suc, ◌+◌, ◌-◌, ◌<◌, ◌≤◌, Option, None, List, [], ◌∷◌, ◌++◌, take, drop, replicate, get_or, refl, sym, ap, ◌∙◌, arith, inl, inr}
+use Rattle.std.specs.Prelude.{slice_set, slice_index_or, is_some, count_by, cond}
 use Rattle.std.proofs.lemmas.List.{get_or-replicate, get_or_past, length-replicate, get_or-set_other, length-set, length-append, length-drop, get_or_append_left, get_or-append_right, ext_get_or}
+use Rattle.std.proofs.lemmas.List.Sums.{sum_by-cons}
 use Rattle.std.proofs.lemmas.Grind.{get_or-set_at, get_or_after_one}
 use Rattle.std.proofs.lemmas.Bool.{cases_lt}
 use Rattle.iw_untagged.specs.Bound.{IsBoundBefore}
@@ -60,3 +61,21 @@ stays end places b few first =
       | inl front ↦ ap (λ i. get_or places i None) (omega arith) ∙ first ∙ sym (up.none k (omega arith))
       | inr behind ↦ b.none k (omega arith) ∙ sym (up.none k (omega arith))
     ])
+
+-- how much a place adds to the count
+abbrev weight : Option (List ℕ) → ℕ
+weight p = cond (is_some p) 1 0
+
+no_weight : (p : Option (List ℕ)) → p ≡ None → weight p ≡ zero
+no_weight p is = ap weight is
+
+-- the buffers are counted up to a place from which on there is none
+pub counted : (places : List (Option (List ℕ))) (end : ℕ) → ((k : ℕ) → end ≤ k → get_or places k None ≡ None) → count_by is_some (take end places) ≡ count_by is_some places
+counted [] zero none = refl
+counted [] (suc n) none = refl
+counted (p ∷ places) zero none =
+    let rest : count_by is_some places ≡ zero = sym (counted places zero (λ k past. none (suc k) (omega arith))) in
+    let all : weight p + count_by is_some places ≡ zero = omega (arith, no_weight p (none 0 (omega arith)), rest) in
+    sym (sum_by-cons weight p places ∙ all)
+counted (p ∷ places) (suc n) none =
+    sum_by-cons weight p (take n places) ∙ ap (λ m. weight p + m) (counted places n (λ k past. none (suc k) (omega (arith, past)))) ∙ sym (sum_by-cons weight p places)

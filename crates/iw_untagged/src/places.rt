@@ -73,7 +73,7 @@ impl<A: Allocator> Places<A> {
     pub(crate) fn count(&self) -> usize
         ensures { result ≡ count_by is_some self.now }
     {
-        self.items.iter().filter(|place| place.is_some()).count()
+        count_bound(&self.items, self.end)
     }
 
     /// Binds the pool's oldest buffer to a place, unless it has one.
@@ -196,4 +196,18 @@ fn first_bound<A: Allocator>(places: &VecDeque<Option<Octets<A>>, A>, end: usize
         }
     }
     places.len()
+}
+
+// How many places have a buffer. No place from `end` on has one.
+fn count_bound<A: Allocator>(places: &VecDeque<Option<Octets<A>>, A>, end: usize) -> usize
+    requires { IsBoundBefore end places.now.items }
+    ensures { result ≡ count_by is_some places.now.items }
+{
+    let mut count = 0;
+    for index in 0..end {
+        if places[index].is_some() {
+            count += 1;
+        }
+    }
+    count
 }
