@@ -10,7 +10,6 @@ mod described;
 mod lending;
 mod limiting;
 mod octets;
-mod openings;
 mod pools;
 mod posting;
 mod receiving;
@@ -19,6 +18,7 @@ mod registering;
 mod sending;
 mod sharing;
 mod sized;
+mod stream_opening;
 mod streams;
 mod texts;
 
@@ -42,7 +42,6 @@ pub use octets::{
     iwarp_deliver, iwarp_emit, iwarp_fetch, iwarp_first_number, iwarp_progress, iwarp_wants_write,
     iwarp_work, iwarp_work_on,
 };
-pub use openings::{iwarp_close, iwarp_open_next, iwarp_open_shared_next};
 pub use pools::{iwarp_open_shared, iwarp_post_shared, iwarp_share};
 pub use posting::{iwarp_post_read, iwarp_post_recv, iwarp_post_send, iwarp_post_write};
 pub use receiving::{
@@ -57,6 +56,7 @@ pub use sending::{iwarp_fetch_sent, iwarp_post_send_buffer, iwarp_post_write_buf
 pub use sharing::iwarp_work_within;
 pub use sized::{iwarp_new_with, iwarp_peer_facts, iwarp_region_facts};
 use std::alloc::Global;
+pub use stream_opening::{iwarp_close, iwarp_open_next, iwarp_open_shared_next};
 pub use streams::{
     iwarp_accept, iwarp_break, iwarp_open, iwarp_private, iwarp_reject, iwarp_set_mulpdu,
     iwarp_state, iwarp_told,

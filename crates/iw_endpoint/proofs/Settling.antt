@@ -35,11 +35,11 @@ use Rattle.iw_stream.specs.declared.answer.Step.{Step}
 use Rattle.iw_stream.specs.declared.answer.Step.TheVariants as steps
 use Rattle.iw_stream.specs.declared.ending.Ending.TheVariants.{Over}
 use Rattle.iw_stream.specs.Ending.{has_ended, with_last_word}
-use Rattle.iw_stream.specs.declared.judging.Landing.{Landing}
-use Rattle.iw_stream.specs.declared.judging.Landing.TheVariants.{Write, Response, Send, Request, Terminate}
-use Rattle.iw_stream.specs.declared.judging.PlacedFrame.{PlacedFrame}
-use Rattle.iw_stream.specs.declared.judging.Turning.{Turning}
-use Rattle.iw_stream.specs.declared.judging.Turning.TheVariants.{Passed, Completed, Answered}
+use Rattle.iw_stream.specs.declared.landing.Landing.{Landing}
+use Rattle.iw_stream.specs.declared.landing.Landing.TheVariants.{Write, Response, Send, Request, Terminate}
+use Rattle.iw_stream.specs.declared.landing.PlacedFrame.{PlacedFrame}
+use Rattle.iw_stream.specs.declared.landing.Turning.{Turning}
+use Rattle.iw_stream.specs.declared.landing.Turning.TheVariants.{Passed, Completed, Answered}
 use Rattle.iw_stream.specs.Frames.{Frame, EarlyRecord, IsNext, frame_by, placed, placed_at, record_tried, state_tried, without}
 use Rattle.iw_stream.specs.Judging.{verdict, early_verdict, turn_of}
 use Rattle.iw_stream.specs.Kept.{Stands}

@@ -36,11 +36,11 @@ use Rattle.iw_reads.specs.Outstanding.{sink_fault, response_turn_fault, finished
 use Rattle.iw_tagged.specs.Placing as placing
 use Rattle.iw_tagged.specs.Placing.{placing_fault}
 use Rattle.iw_untagged.specs.Receiving.{Receiving, buffer_fault, turn_fault}
-use Rattle.iw_stream.specs.declared.judging.Landing.{Landing}
-use Rattle.iw_stream.specs.declared.judging.Landing.TheVariants.{Write, Response, Send, Request, Terminate}
-use Rattle.iw_stream.specs.declared.judging.PlacedFrame.{PlacedFrame}
-use Rattle.iw_stream.specs.declared.judging.Turning.{Turning}
-use Rattle.iw_stream.specs.declared.judging.Turning.TheVariants.{Passed, Completed, Answered}
+use Rattle.iw_stream.specs.declared.landing.Landing.{Landing}
+use Rattle.iw_stream.specs.declared.landing.Landing.TheVariants.{Write, Response, Send, Request, Terminate}
+use Rattle.iw_stream.specs.declared.landing.PlacedFrame.{PlacedFrame}
+use Rattle.iw_stream.specs.declared.landing.Turning.{Turning}
+use Rattle.iw_stream.specs.declared.landing.Turning.TheVariants.{Passed, Completed, Answered}
 use Rattle.iw_startup.specs.declared.enhanced.Mismatch as enhanced
 use Rattle.iw_startup.specs.declared.progress.Progress.{Progress}
 use Rattle.iw_startup.specs.declared.progress.Progress.TheVariants as progress

@@ -575,8 +575,8 @@ impl<A: Allocator> Endpoint<A> {
     }
 
     /// What the peer told in its start-up frame by the word of IRD and ORD (RFC 6581 9), once that was read; `None` if it
-    /// has no word.
-    pub fn told(&self, number: u32) -> Result<Option<EnhancedData>, NoSuchStream>
+    /// has no word. The frame's options are told by [`Endpoint::peer_options`].
+    pub fn peer_enhanced(&self, number: u32) -> Result<Option<EnhancedData>, NoSuchStream>
         ensures stream { is_ok result ≡ has_stream self.now number }
         ensures told { IfOk result (λ told. told ≡ told_at self.now number) }
     {
@@ -584,6 +584,14 @@ impl<A: Allocator> Endpoint<A> {
             Some(stream) => Ok(stream.told()),
             None => Err(NoSuchStream),
         }
+    }
+
+    /// The older name of [`Endpoint::peer_enhanced`]. **Deprecated**: it goes with the next release.
+    pub fn told(&self, number: u32) -> Result<Option<EnhancedData>, NoSuchStream>
+        ensures stream { is_ok result ≡ has_stream self.now number }
+        ensures told { IfOk result (λ told. told ≡ told_at self.now number) }
+    {
+        self.peer_enhanced(number)
     }
 
     /// What the peer asks for in its start-up frame at a stream, once that was read: at [`Step::Asked`], and from

@@ -13,8 +13,8 @@ use crate::copying::copy_out;
 use crate::event::{Told, peer_told};
 use crate::handle::Handle;
 use crate::held::Held;
-use crate::openings::open_lined;
 use crate::refusal::{Refusal, answer_reason, open_reason, size_reason};
+use crate::stream_opening::open_lined;
 use crate::words::{config_of, private_of, role_of};
 use iw_endpoint::{Agreed, Endpoint, Standing};
 use std::alloc::Global;
@@ -99,7 +99,7 @@ pub(crate) fn told(endpoint: &Endpoint, number: u32) -> Result<Told, Refusal>
     let Ok(options) = endpoint.peer_options(number) else {
         return Err(Refusal::NoSuchStream);
     };
-    let Ok(word) = endpoint.told(number) else {
+    let Ok(word) = endpoint.peer_enhanced(number) else {
         return Err(Refusal::NoSuchStream);
     };
     Ok(peer_told(options, word))
@@ -206,7 +206,7 @@ impl Handle {
     }
 
     /// What the peer told in its start-up frame, once that was read: what it asks for ([`Endpoint::peer_options`]), and the word of
-    /// IRD and ORD, if it has one ([`Endpoint::told`]).
+    /// IRD and ORD, if it has one ([`Endpoint::peer_enhanced`]).
     pub fn told(&mut self, alloc: Global, number: u32) -> Result<Told, Refusal>
         ensures refused { result_err result ≡ refusal_in self.old.state (λ e. stream_refusal e number) }
         ensures told { IfOk result

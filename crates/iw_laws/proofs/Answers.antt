@@ -18,7 +18,7 @@ use Rattle.iw_events.specs.declared.act.Seen.{Seen}
 use Rattle.iw_events.specs.declared.act.Seen.TheVariants as seen
 use Rattle.iw_laws.specs.Words.{Octets}
 use Rattle.iw_locate.specs.Free.{front_of}
-use Rattle.iw_stream.specs.declared.judging.PlacedFrame.{PlacedFrame}
+use Rattle.iw_stream.specs.declared.landing.PlacedFrame.{PlacedFrame}
 use Rattle.iw_stream.specs.Frames.{Frame, EarlyRecord, placed_at}
 use Rattle.iw_stream.specs.Judging.{early_verdict}
 use Rattle.iw_laws.specs.Turns.{seen_judged, seen_tried, front_verdict, ReadsFrames, IsJudged, IsEarly, HasTurn, TurnsSeen, HearsFrame, hears, was_placed}

@@ -38,7 +38,7 @@ use Rattle.iw_laws.proofs.Tales.{Tale}
 use Rattle.std.specs.List.{Contains}
 use Rattle.iw_fpdu.specs.Frame.{frame_end}
 use Rattle.iw_locate.specs.Records.{from_of, IsPlaced}
-use Rattle.iw_stream.specs.declared.judging.PlacedFrame.{PlacedFrame}
+use Rattle.iw_stream.specs.declared.landing.PlacedFrame.{PlacedFrame}
 use Rattle.iw_stream.specs.Frames.{EarlyRecord, placed}
 use Rattle.iw_stream.proofs.Fronts.{carried_by}
 use Rattle.iw_laws.specs.Turns.{Located, located, located_of, past_last}

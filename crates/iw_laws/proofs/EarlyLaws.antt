@@ -18,8 +18,8 @@ use Rattle.iw_locate.specs.Lowest.{early_place, lowest_free}
 use Rattle.iw_locate.proofs.Telling.{lowest_is_told}
 use Rattle.iw_rdmap.specs.declared.head.Head.{Head}
 use Rattle.iw_rdmap.specs.declared.head.Head.TheVariants as heads
-use Rattle.iw_stream.specs.declared.judging.Landing.{Landing}
-use Rattle.iw_stream.specs.declared.judging.PlacedFrame.{PlacedFrame}
+use Rattle.iw_stream.specs.declared.landing.Landing.{Landing}
+use Rattle.iw_stream.specs.declared.landing.PlacedFrame.{PlacedFrame}
 use Rattle.iw_stream.specs.Frames.{Frame, segment_in, payload_of, payload_len, placed, head_in}
 use Rattle.iw_stream.specs.Judging.{Standing, verdict, early_verdict, head_verdict, judged_head, may_be_early, landing_in, fault_or, mismatch_fault, turn_of, segment_turn}
 use Rattle.iw_stream.specs.Kept.{IsTagged}

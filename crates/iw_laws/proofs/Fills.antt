@@ -35,7 +35,7 @@ use Rattle.iw_fpdu.proofs.Sequences.{between_past}
 use Rattle.iw_fpdu.proofs.Follows.{frames_follow}
 use Rattle.iw_queues.specs.Joined.{Whole, joined, completed}
 use Rattle.iw_untagged.specs.Receiving.{Receiving, ahead_of, bound_to, buffer_fault, oldest, written, written_in}
-use Rattle.iw_stream.specs.declared.judging.PlacedFrame.{PlacedFrame}
+use Rattle.iw_stream.specs.declared.landing.PlacedFrame.{PlacedFrame}
 use Rattle.iw_stream.specs.Frames.{Frame, EarlyRecord, placed, placed_at, record_of, payload_of}
 use Rattle.iw_stream.specs.Frames as frames
 use Rattle.iw_octets.specs.Operation.{opcode_of, untagged_operation}

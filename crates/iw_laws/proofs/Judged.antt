@@ -27,7 +27,7 @@ use Rattle.iw_locate.specs.Next.{IsLowest}
 use Rattle.iw_locate.proofs.Apart.{apart_drop, starts_rise, inserted_apart, forget_done}
 use Rattle.iw_locate.proofs.Holds.{adds_one, keeps_from}
 use Rattle.iw_locate.proofs.Telling.{lowest_is_told}
-use Rattle.iw_stream.specs.declared.judging.PlacedFrame.{PlacedFrame}
+use Rattle.iw_stream.specs.declared.landing.PlacedFrame.{PlacedFrame}
 use Rattle.iw_stream.specs.Frames.{Frame, EarlyRecord, frame_by, segment_in, placed, placed_at, kept_by, record_of, record_tried, state_tried}
 use Rattle.iw_stream.proofs.Landings.{length_ulpdu}
 use Rattle.iw_laws.specs.Words.{Octets, listed}

@@ -24,13 +24,13 @@ use Rattle.iw_locate.proofs.Front.{front_clear, starts_of}
 use Rattle.iw_locate.proofs.Left.{whole_left, length_left, reads_left, open_reads, early_left}
 use Rattle.iw_locate.proofs.Stays.{IsSameAt}
 use Rattle.iw_locate.proofs.Telling.{overlaps_are_told}
-use Rattle.iw_stream.specs.declared.judging.PlacedFrame.{PlacedFrame}
+use Rattle.iw_stream.specs.declared.landing.PlacedFrame.{PlacedFrame}
 use Rattle.iw_stream.specs.Frames.{Frame, EarlyRecord, frame_by, placed_at, kept_by}
 use Rattle.iw_stream.specs.Starting.{expecting, first_place_in}
 use Rattle.iw_stream.specs.Stream.{StreamState}
 use Rattle.iw_stream.specs.Work.{next_frame, waiting, clashes, early_frame, scene, inbox, after_trying}
 use Rattle.iw_locate.specs.Records.{from_of, added}
-use Rattle.iw_stream.specs.declared.judging.Landing.{Landing}
+use Rattle.iw_stream.specs.declared.landing.Landing.{Landing}
 use Rattle.iw_stream.specs.Frames.{record_tried}
 use Rattle.iw_stream.specs.Judging.{receiving_tried}
 use Rattle.iw_stream.proofs.Landings.{length_ulpdu}

@@ -4,7 +4,7 @@ use Rattle.iw_octets.specs.declared.segment.Segment.{Segment}
 use Rattle.iw_queues.specs.Queue.{Queue}
 use Rattle.iw_queues.specs.declared.request.Kind.{Kind}
 use Rattle.iw_untagged.specs.Receiving.{Source}
-use Rattle.iw_stream.specs.declared.judging.PlacedFrame.{PlacedFrame}
+use Rattle.iw_stream.specs.declared.landing.PlacedFrame.{PlacedFrame}
 use Rattle.iw_stream.specs.Stream.{StreamState}
 use Rattle.iw_laws.specs.Words.{Octets, Opening, Placing}
 use Rattle.iw_laws.proofs.Checks.{places_in}

@@ -16,7 +16,7 @@ use Rattle.iw_fpdu.specs.Sequence.{Carried, first_frame}
 use Rattle.iw_fpdu.proofs.Octets.{length_data}
 use Rattle.iw_fpdu.proofs.Sequences.{First, first_parts, first_takes}
 use Rattle.iw_untagged.specs.Receiving.{Receiving}
-use Rattle.iw_stream.specs.declared.judging.PlacedFrame.{PlacedFrame}
+use Rattle.iw_stream.specs.declared.landing.PlacedFrame.{PlacedFrame}
 use Rattle.iw_stream.specs.Judging as judging
 use Rattle.iw_stream.specs.Frames.{Frame, payload_of, frame_by, standing_at, placed}
 use Rattle.iw_stream.specs.Starting.{expecting, first_place_in}

@@ -22,7 +22,7 @@ use Rattle.iw_locate.specs.Records.{from_of, IsPlaced, IsClear, IsClearOfPlaced,
 use Rattle.iw_locate.specs.Free.{point_of, front_of, end_of}
 use Rattle.iw_locate.proofs.Holds.{adds_one, keeps_from}
 use Rattle.iw_locate.proofs.Telling.{overlaps_are_told}
-use Rattle.iw_stream.specs.declared.judging.PlacedFrame.{PlacedFrame}
+use Rattle.iw_stream.specs.declared.landing.PlacedFrame.{PlacedFrame}
 use Rattle.iw_stream.specs.Frames.{Frame, EarlyRecord, placed, record_of, placed_at}
 use Rattle.iw_stream.specs.Starting.{is_open, expecting, first_place_in}
 use Rattle.iw_laws.proofs.Rooms.{heard_open}

@@ -32,7 +32,7 @@ use Rattle.iw_laws.proofs.Owned.{Emits, out_of}
 use Rattle.iw_laws.proofs.Heard.{IsHeard}
 use Rattle.iw_laws.proofs.Responses.{AnswerFits, SinkFits, sent_responses, sent_ended, sent_before, sent_requests, sent_fits, ready_fit}
 use Rattle.iw_laws.proofs.Ready.{ready_in}
-use Rattle.iw_stream.specs.declared.judging.PlacedFrame.{PlacedFrame}
+use Rattle.iw_stream.specs.declared.landing.PlacedFrame.{PlacedFrame}
 use Rattle.iw_stream.specs.Work.{scene}
 use Rattle.iw_laws.proofs.Judged.{Adds, segments_early}
 use Rattle.iw_laws.proofs.Delivered.{reread, again, delivered, fits, fits_waiting}

@@ -2,7 +2,7 @@
 use Rattle.std.proofs.Common.{◌≡◌, ℕ, Bool, true, false, cond, List, Option, Some, None, Result, Ok, Err, refl, ap, ◌∙◌, inl, inr}
 use Rattle.std.specs.Option.{option_or}
 use Rattle.iw_octets.specs.declared.fault.Fault.{Fault}
-use Rattle.iw_stream.specs.declared.judging.Landing.{Landing}
+use Rattle.iw_stream.specs.declared.landing.Landing.{Landing}
 use Rattle.iw_stream.specs.Frames.{Frame}
 use Rattle.iw_stream.specs.Judging.{Standing, verdict, early_verdict}
 use Rattle.iw_stream.specs.Starting.{expecting, first_place_in}

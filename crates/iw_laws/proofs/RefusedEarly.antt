@@ -23,9 +23,9 @@ use Rattle.iw_fpdu.proofs.Follows.{frames_follow}
 use Rattle.iw_fpdu.proofs.Sequences.{written_is_first}
 use Rattle.iw_fpdu.proofs.Written.{frame_is}
 use Rattle.iw_locate.specs.Free.{Scene, scene_of, IsFree, front_of}
-use Rattle.iw_stream.specs.declared.judging.Landing.{Landing}
-use Rattle.iw_stream.specs.declared.judging.Landing.TheVariants as landing
-use Rattle.iw_stream.specs.declared.judging.Turning.TheVariants as turning
+use Rattle.iw_stream.specs.declared.landing.Landing.{Landing}
+use Rattle.iw_stream.specs.declared.landing.Landing.TheVariants as landing
+use Rattle.iw_stream.specs.declared.landing.Turning.TheVariants as turning
 use Rattle.arrayvec.specs.ArrayVec.{ArrayVec}
 use Rattle.iw_stream.specs.Frames.{Frame, EarlyRecord, standing_at, placed, placed_at}
 use Rattle.iw_untagged.specs.Receiving.{Receiving, nothing_received, with_buffer, buffer_fault}

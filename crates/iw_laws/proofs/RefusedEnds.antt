@@ -9,8 +9,8 @@ use Rattle.iw_memory.specs.declared.rights.Right.TheVariants as rights
 use Rattle.iw_memory.specs.Table.{empty, denial_for}
 use Rattle.iw_queues.specs.declared.request.Kind.TheVariants as kinds
 use Rattle.iw_tagged.specs.declared.placing.Placed.{Placed}
-use Rattle.iw_stream.specs.declared.judging.Landing.{Landing}
-use Rattle.iw_stream.specs.declared.judging.Landing.TheVariants as landing
+use Rattle.iw_stream.specs.declared.landing.Landing.{Landing}
+use Rattle.iw_stream.specs.declared.landing.Landing.TheVariants as landing
 use Rattle.iw_stream.specs.Frames.{Frame, segment_in, payload_of}
 use Rattle.iw_fpdu.specs.Frame.{frame_end}
 use Rattle.iw_locate.specs.Lowest.{overlaps_placed}

@@ -27,9 +27,9 @@ use Rattle.iw_untagged.specs.Receiving.{Receiving, lent, sharing, ahead_of, buff
 use Rattle.iw_stream.specs.declared.answer.RecvRefusal.{RecvRefusal}
 use Rattle.iw_stream.specs.declared.answer.RecvRefusal.TheVariants.{Ended, Shared}
 use Rattle.iw_stream.specs.declared.answer.Role.TheVariants.{Preset}
-use Rattle.iw_stream.specs.declared.judging.Landing.{Landing}
-use Rattle.iw_stream.specs.declared.judging.Landing.TheVariants as landing
-use Rattle.iw_stream.specs.declared.judging.Turning.TheVariants as turning
+use Rattle.iw_stream.specs.declared.landing.Landing.{Landing}
+use Rattle.iw_stream.specs.declared.landing.Landing.TheVariants as landing
+use Rattle.iw_stream.specs.declared.landing.Turning.TheVariants as turning
 use Rattle.iw_stream.specs.Frames.{Frame, standing_at, placed, placed_at, head_in, payload_len, payload_of, segment_in}
 use Rattle.iw_stream.specs.Judging.{Standing, verdict, fault_or, or_else, turn_of, turned_by, receiving_turned}
 use Rattle.iw_stream.specs.Starting.{AtOnce, plain, awaits_frame, expecting}

@@ -29,11 +29,11 @@ use Rattle.iw_startup.specs.declared.progress.Progress.TheVariants as progress
 use Rattle.iw_tagged.specs.Placing as placing
 use Rattle.iw_tagged.specs.Placing.{placing_fault}
 use Rattle.iw_untagged.specs.Receiving.{turn_fault}
-use Rattle.iw_stream.specs.declared.judging.Landing.{Landing}
-use Rattle.iw_stream.specs.declared.judging.Landing.TheVariants.{Write, Response, Send, Request, Terminate}
-use Rattle.iw_stream.specs.declared.judging.PlacedFrame.{PlacedFrame}
-use Rattle.iw_stream.specs.declared.judging.Turning.{Turning}
-use Rattle.iw_stream.specs.declared.judging.Turning.TheVariants.{Passed, Completed, Answered}
+use Rattle.iw_stream.specs.declared.landing.Landing.{Landing}
+use Rattle.iw_stream.specs.declared.landing.Landing.TheVariants.{Write, Response, Send, Request, Terminate}
+use Rattle.iw_stream.specs.declared.landing.PlacedFrame.{PlacedFrame}
+use Rattle.iw_stream.specs.declared.landing.Turning.{Turning}
+use Rattle.iw_stream.specs.declared.landing.Turning.TheVariants.{Passed, Completed, Answered}
 use Rattle.iw_stream.specs.Frames.{Frame, payload_of, head_in, payload_len}
 use Rattle.iw_stream.specs.Judging.{or_else, fault_or, place_in, place_verdict, head_verdict, judged_head, mismatch_fault, verdict, send_turning, invalidate_fault, invalidation_fault, segment_turn, turn_of, early_verdict, landing_in, may_be_early, table_tried}
 use Rattle.iw_stream.specs.Starting.{first_place_in, heard, mismatch_in, progress_in}

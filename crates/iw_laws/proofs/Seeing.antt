@@ -31,13 +31,13 @@ use Rattle.iw_reads.specs.Outstanding.{sink_fault}
 use Rattle.iw_reads.specs.Source.{source_fault}
 use Rattle.iw_tagged.specs.declared.placing.Placed.{Placed}
 use Rattle.iw_tagged.specs.Placing.{denial_fault, placing_fault}
-use Rattle.iw_stream.specs.declared.judging.Landing.{Landing}
-use Rattle.iw_stream.specs.declared.judging.Landing.TheVariants as landing
+use Rattle.iw_stream.specs.declared.landing.Landing.{Landing}
+use Rattle.iw_stream.specs.declared.landing.Landing.TheVariants as landing
 use Rattle.iw_stream.specs.Frames.{Frame, segment_in, payload_of}
 use Rattle.iw_stream.specs.Judging.{Standing, or_else, fault_or, place_in, head_verdict, judged_head, landing_in, may_be_early, early_verdict, mismatch_fault, segment_verdict, table_tried, verdict, turn_of}
-use Rattle.iw_stream.specs.declared.judging.PlacedFrame.{PlacedFrame}
-use Rattle.iw_stream.specs.declared.judging.Turning.{Turning}
-use Rattle.iw_stream.specs.declared.judging.Turning.TheVariants as turning
+use Rattle.iw_stream.specs.declared.landing.PlacedFrame.{PlacedFrame}
+use Rattle.iw_stream.specs.declared.landing.Turning.{Turning}
+use Rattle.iw_stream.specs.declared.landing.Turning.TheVariants as turning
 use Rattle.iw_startup.specs.declared.progress.Progress.{Progress}
 use Rattle.iw_startup.specs.declared.progress.Progress.TheVariants as progress
 use Rattle.iw_untagged.specs.Receiving.{Receiving, buffer_fault}

@@ -7,7 +7,7 @@ use Rattle.iw_fpdu.specs.Frame.{frame_end}
 use Rattle.iw_fpdu.specs.Places.{span_start}
 use Rattle.iw_locate.specs.Records.{from_of, IsPlaced, IsClear, IsClearOfPlaced}
 use Rattle.iw_locate.specs.Free.{point_of}
-use Rattle.iw_stream.specs.declared.judging.PlacedFrame.{PlacedFrame}
+use Rattle.iw_stream.specs.declared.landing.PlacedFrame.{PlacedFrame}
 use Rattle.iw_stream.specs.Frames.{EarlyRecord}
 use Rattle.iw_laws.specs.Once.{Span, IsApart, NoneOverlap}
 use Rattle.iw_laws.proofs.Judged.{View}

@@ -39,11 +39,11 @@ use Rattle.iw_startup.specs.State.{StartupState}
 use Rattle.iw_untagged.specs.Receiving.{written, finished, first_buffer, flushed, oldest, turn_fault, buffer_fault}
 use Rattle.iw_ranges.specs.Arrived.{advanced}
 use Rattle.iw_stream.specs.declared.answer.Step.{Step}
-use Rattle.iw_stream.specs.declared.judging.Landing.{Landing}
-use Rattle.iw_stream.specs.declared.judging.Landing.TheVariants as landing
-use Rattle.iw_stream.specs.declared.judging.PlacedFrame.{PlacedFrame}
-use Rattle.iw_stream.specs.declared.judging.Turning.{Turning}
-use Rattle.iw_stream.specs.declared.judging.Turning.TheVariants as turning
+use Rattle.iw_stream.specs.declared.landing.Landing.{Landing}
+use Rattle.iw_stream.specs.declared.landing.Landing.TheVariants as landing
+use Rattle.iw_stream.specs.declared.landing.PlacedFrame.{PlacedFrame}
+use Rattle.iw_stream.specs.declared.landing.Turning.{Turning}
+use Rattle.iw_stream.specs.declared.landing.Turning.TheVariants as turning
 use Rattle.iw_fpdu.specs.Frame.{frame_end}
 use Rattle.iw_locate.specs.Records.{added, kept_from}
 use Rattle.iw_stream.specs.Frames.{Frame, EarlyRecord, payload_of, placed, payload_len, placed_at, record_of, record_tried}

@@ -57,9 +57,9 @@ use Rattle.iw_startup.proofs.Openings.{unanswered_not_agreed, told_whole}
 use Rattle.std.proofs.lemmas.Option.{none-some, same_Some}
 use Rattle.iw_fpdu.proofs.Sequences.{Alone, first_alone, first_stays, first_takes}
 use Rattle.iw_untagged.specs.Receiving.{Receiving, with_buffer, written, finished, flushed}
-use Rattle.iw_stream.specs.declared.judging.PlacedFrame.{PlacedFrame}
+use Rattle.iw_stream.specs.declared.landing.PlacedFrame.{PlacedFrame}
 use Rattle.iw_stream.specs.Frames.{Frame, EarlyRecord, payload_of, standing_at, placed as placed_of, placed_at, record_of, record_tried, state_tried}
-use Rattle.iw_stream.specs.declared.judging.Landing.{Landing}
+use Rattle.iw_stream.specs.declared.landing.Landing.{Landing}
 use Rattle.iw_stream.specs.Frames as frames
 use Rattle.iw_stream.specs.Judging.{receiving_turned, is_read_response, is_response, tagged_left, left_by_turn, reads_left}
 use Rattle.iw_stream.specs.Terminating.{terminate_alone, terminate_fetched}

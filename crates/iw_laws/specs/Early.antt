@@ -3,8 +3,8 @@ use Rattle.std.specs.Prelude.{◌≡◌, ◌⊎◌, ℕ, ◌+◌, ◌≤◌, tru
 use Rattle.iw_memory.specs.Table.{Table}
 use Rattle.iw_locate.specs.Free.{IsFree}
 use Rattle.iw_locate.specs.Records.{max_records}
-use Rattle.iw_stream.specs.declared.judging.Landing.{Landing}
-use Rattle.iw_stream.specs.declared.judging.Landing.TheVariants as landing
+use Rattle.iw_stream.specs.declared.landing.Landing.{Landing}
+use Rattle.iw_stream.specs.declared.landing.Landing.TheVariants as landing
 use Rattle.iw_stream.specs.Frames.{Frame, placed, head_in}
 use Rattle.iw_stream.specs.Judging.{Standing, verdict, turn_of}
 use Rattle.iw_stream.specs.Kept.{IsTagged}

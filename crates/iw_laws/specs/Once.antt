@@ -5,7 +5,7 @@ use Rattle.std.specs.Option.{option_map}
 use Rattle.iw_fpdu.specs.declared.layout.Layout.{Layout}
 use Rattle.iw_fpdu.specs.Frame.{frame_end}
 use Rattle.iw_fpdu.specs.Places.{span_start}
-use Rattle.iw_stream.specs.declared.judging.Landing.{Landing}
+use Rattle.iw_stream.specs.declared.landing.Landing.{Landing}
 use Rattle.iw_stream.specs.Frames.{Frame}
 use Rattle.iw_stream.specs.Judging.{Standing, verdict}
 use Rattle.iw_stream.specs.Starting.{expecting}

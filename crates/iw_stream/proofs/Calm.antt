@@ -14,9 +14,9 @@ use Rattle.iw_startup.specs.declared.enhanced.Mismatch.{Mismatch}
 use Rattle.iw_startup.specs.declared.progress.Progress.{Progress}
 use Rattle.iw_startup.specs.declared.progress.Progress.TheVariants as progress
 use Rattle.iw_untagged.specs.Receiving.{Source, Posted, Pooled, Receiving, due_buffer, exchanged, first_buffer, lent, seeing, shifted, without_first}
-use Rattle.iw_stream.specs.declared.judging.PlacedFrame.{PlacedFrame}
-use Rattle.iw_stream.specs.declared.judging.Turning.{Turning}
-use Rattle.iw_stream.specs.declared.judging.Turning.TheVariants.{Passed, Completed, Answered}
+use Rattle.iw_stream.specs.declared.landing.PlacedFrame.{PlacedFrame}
+use Rattle.iw_stream.specs.declared.landing.Turning.{Turning}
+use Rattle.iw_stream.specs.declared.landing.Turning.TheVariants.{Passed, Completed, Answered}
 use Rattle.iw_stream.specs.Frames.{payload_len, head_in}
 use Rattle.iw_stream.specs.Judging.{segment_turn, turn_of, turned_by}
 use Rattle.iw_stream.specs.Starting.{awaits_frame, heard, is_open, mismatch_in, progress_in}

@@ -29,7 +29,7 @@ use Rattle.iw_locate.specs.Keeping.{IsFrontUnplaced}
 use Rattle.iw_locate.proofs.Front.{front_clear, starts_of}
 use Rattle.iw_locate.proofs.Holds.{adds_one}
 use Rattle.iw_untagged.specs.Receiving.{Receiving}
-use Rattle.iw_stream.specs.declared.judging.Landing.{Landing}
+use Rattle.iw_stream.specs.declared.landing.Landing.{Landing}
 use Rattle.iw_stream.specs.Frames.{Frame, EarlyRecord, IsNext, frame_at, frame_by, kept_by, payload_of, placed, record_tried, state_tried, without}
 use Rattle.iw_stream.specs.Incoming.{Coming, IsClearAt, IsSameScene, frame_in, scene_in}
 use Rattle.iw_stream.specs.Judging.{Standing, early_verdict, judged_head, landing_in, may_be_early, receiving_tried, table_tried, verdict}

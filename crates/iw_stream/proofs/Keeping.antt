@@ -33,9 +33,9 @@ use Rattle.iw_octets.specs.declared.payload.ReadRequest.{ReadRequest}
 use Rattle.iw_queues.specs.Queue.{Queue}
 use Rattle.iw_queues.specs.Segments.{Numbers}
 use Rattle.iw_untagged.specs.Receiving.{Receiving, finished, with_buffer, written}
-use Rattle.iw_stream.specs.declared.judging.Landing.{Landing}
-use Rattle.iw_stream.specs.declared.judging.Landing.TheVariants as landings
-use Rattle.iw_stream.specs.declared.judging.PlacedFrame.{PlacedFrame}
+use Rattle.iw_stream.specs.declared.landing.Landing.{Landing}
+use Rattle.iw_stream.specs.declared.landing.Landing.TheVariants as landings
+use Rattle.iw_stream.specs.declared.landing.PlacedFrame.{PlacedFrame}
 use Rattle.iw_stream.specs.Frames.{Frame, IsNext, frame_by, header_in, payload_of, placed, head_in, payload_len}
 use Rattle.iw_stream.specs.Judging.{Standing, mismatch_fault, fault_or, fault_told, judged_head, place_verdict, head_verdict, segment_verdict, verdict, receiving_landed, receiving_turned, turned_by}
 use Rattle.iw_stream.specs.declared.ending.Ending.{Ending}

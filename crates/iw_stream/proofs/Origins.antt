@@ -31,8 +31,8 @@ use Rattle.iw_reads.specs.Requests.{Requested}
 use Rattle.iw_reads.specs.Source as source
 use Rattle.iw_tagged.specs.Placing as placing
 use Rattle.iw_untagged.specs.Receiving.{Receiving, ahead_of, buffer_for, oldest, received, room_fault, turn_fault}
-use Rattle.iw_stream.specs.declared.judging.Turning.{Turning}
-use Rattle.iw_stream.specs.declared.judging.Turning.TheVariants as turnings
+use Rattle.iw_stream.specs.declared.landing.Turning.{Turning}
+use Rattle.iw_stream.specs.declared.landing.Turning.TheVariants as turnings
 use Rattle.iw_stream.specs.Frames.{Frame, frame_by, payload_of}
 use Rattle.iw_stream.specs.Judging.{Standing, mismatch_fault, or_else, fault_or, judged_head, place_verdict, head_verdict, segment_verdict, verdict, is_response, answering_by, send_turning, invalidate_fault, invalidation_fault, segment_turn, turned_by}
 use Rattle.iw_stream.specs.Stream.{StreamState, ends_by}

@@ -7,7 +7,7 @@ use Rattle.iw_fpdu.specs.Places.{frame_start}
 use Rattle.iw_locate.specs.Records.{AreApart}
 use Rattle.iw_locate.specs.Free.{front_of}
 use Rattle.iw_locate.specs.Keeping as keeping
-use Rattle.iw_stream.specs.declared.judging.PlacedFrame.{PlacedFrame}
+use Rattle.iw_stream.specs.declared.landing.PlacedFrame.{PlacedFrame}
 use Rattle.iw_stream.specs.Frames.{placed_at}
 use Rattle.iw_stream.specs.Kept.{IsPlaced, Keeps, NoneReachesOver}
 use Rattle.iw_stream.specs.Starting.{expecting, first_place_in}

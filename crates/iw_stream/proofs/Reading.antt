@@ -35,7 +35,7 @@ use Rattle.iw_reads.specs.Source.{IsInRange, denial_fault, source_fault}
 use Rattle.iw_startup.specs.declared.enhanced.Rtr.{Rtr}
 use Rattle.iw_startup.specs.declared.enhanced.Rtr.TheVariants.{Write, Read}
 use Rattle.iw_untagged.specs.Receiving.{Receiving, turn_fault}
-use Rattle.iw_stream.specs.declared.judging.Turning.TheVariants as turnings
+use Rattle.iw_stream.specs.declared.landing.Turning.TheVariants as turnings
 use Rattle.iw_stream.specs.Judging.{or_else, fault_or, answering_by, is_response, is_solicited, stag_to_invalidate, send_turning, invalidation_fault, segment_turn, left_by_turn}
 use Rattle.iw_stream.specs.Kept.{AreOthers, IsPosting, AreAwaited}
 use Rattle.iw_stream.specs.Rtr.{rtr_message, rtr_request}

@@ -27,7 +27,7 @@ use Rattle.iw_tagged.specs.declared.placing.Placed.{Placed}
 use Rattle.iw_tagged.specs.Placing.{placing_fault}
 use Rattle.iw_untagged.specs.Receiving.{Receiving}
 use Rattle.iw_stream.specs.declared.answer.Step.TheVariants as steps
-use Rattle.iw_stream.specs.declared.judging.Landing.{Landing}
+use Rattle.iw_stream.specs.declared.landing.Landing.{Landing}
 use Rattle.iw_stream.specs.Judging.{Standing, fault_or, or_else, as_tagged, is_read_response, is_response, landing_of, place_in, right_of, head_verdict, segment_verdict, receiving_landed, judged_head, may_be_early, landing_in, early_verdict, verdict}
 use Rattle.iw_stream.specs.Frames.{Frame, frame_at, header_in, payload_of, placed, segment_in}
 use Rattle.iw_stream.specs.Kept.{Keeps}

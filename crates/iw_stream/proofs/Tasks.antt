@@ -9,7 +9,7 @@ use Rattle.iw_queues.specs.declared.completions.Done.{Done}
 use Rattle.iw_queues.specs.Queue.{done_in, oldest_in}
 use Rattle.iw_untagged.specs.Receiving.{first_buffer}
 use Rattle.iw_stream.specs.declared.answer.Step.{Step}
-use Rattle.iw_stream.specs.declared.judging.PlacedFrame.{PlacedFrame}
+use Rattle.iw_stream.specs.declared.landing.PlacedFrame.{PlacedFrame}
 use Rattle.iw_stream.specs.Frames.{Frame, placed_at}
 use Rattle.iw_stream.specs.Starting.{is_open, awaits_frame}
 use Rattle.iw_stream.specs.Stream.{StreamState, ended}

@@ -26,7 +26,7 @@ use Rattle.iw_locate.specs.Lowest.{overlaps_placed}
 use Rattle.iw_locate.specs.Keeping as keeping
 use Rattle.iw_locate.specs.Keeping.{IsPassed}
 use Rattle.iw_locate.proofs.Telling.{overlaps_are_told}
-use Rattle.iw_stream.specs.declared.judging.PlacedFrame.{PlacedFrame}
+use Rattle.iw_stream.specs.declared.landing.PlacedFrame.{PlacedFrame}
 use Rattle.iw_stream.specs.Frames.{Frame, EarlyRecord, frame_by, kept_by, placed_at, head_in, payload_len}
 use Rattle.iw_stream.specs.Kept.{HasBuffer, WasHandedOut, Stands, IsPlaced, NoneReachesOver, HasHeader, KeepsHeader, KeepsBuffer, Keeps}
 use Rattle.iw_stream.specs.Starting.{expecting, first_place_in}

@@ -18,7 +18,7 @@ use Rattle.iw_locate.specs.declared.judged.State.{State}
 use Rattle.iw_locate.specs.declared.judged.State.TheVariants.{Tried, Placed}
 use Rattle.iw_locate.specs.Records.{from_of}
 use Rattle.arrayvec.specs.ArrayVec.{ArrayVec}
-use Rattle.iw_stream.specs.declared.judging.PlacedFrame.{PlacedFrame}
+use Rattle.iw_stream.specs.declared.landing.PlacedFrame.{PlacedFrame}
 
 -- a frame: its place, what is wrong with it, and its ULPDU
 pub record Frame : Type 0 where

@@ -37,11 +37,11 @@ use Rattle.iw_tagged.specs.declared.placing.Placed.{Placed}
 use Rattle.iw_tagged.specs.Placing.{placing_fault}
 use Rattle.iw_untagged.specs.Receiving.{Receiving, buffer_fault, turn_fault, written}
 use Rattle.iw_untagged.specs.Receiving as receiving
-use Rattle.iw_stream.specs.declared.judging.Landing.{Landing}
-use Rattle.iw_stream.specs.declared.judging.Landing.TheVariants.{Write, Response, Send, Request, Terminate}
-use Rattle.iw_stream.specs.declared.judging.PlacedFrame.{PlacedFrame}
-use Rattle.iw_stream.specs.declared.judging.Turning.{Turning}
-use Rattle.iw_stream.specs.declared.judging.Turning.TheVariants.{Passed, Completed, Answered}
+use Rattle.iw_stream.specs.declared.landing.Landing.{Landing}
+use Rattle.iw_stream.specs.declared.landing.Landing.TheVariants.{Write, Response, Send, Request, Terminate}
+use Rattle.iw_stream.specs.declared.landing.PlacedFrame.{PlacedFrame}
+use Rattle.iw_stream.specs.declared.landing.Turning.{Turning}
+use Rattle.iw_stream.specs.declared.landing.Turning.TheVariants.{Passed, Completed, Answered}
 use Rattle.iw_stream.specs.Frames.{Frame, segment_in, payload_of, head_in, payload_len}
 
 -- what the checks of a frame look at: the regions, whose peer sent it, the receive buffers, the Reads of this end that are outstanding,

@@ -23,9 +23,9 @@ use Rattle.iw_reads.specs.Outstanding as outstanding
 use Rattle.iw_reads.specs.Requests as requests
 use Rattle.iw_stream.specs.declared.answer.Step.{Step}
 use Rattle.iw_stream.specs.declared.answer.Step.TheVariants.{Done, Flushed, FlushedRecv, Asked, Opened, Closed, Placed, Buffered, Requested, Tried, Passed, Received, Terminated, Fault, Idle}
-use Rattle.iw_stream.specs.declared.judging.PlacedFrame.{PlacedFrame}
-use Rattle.iw_stream.specs.declared.judging.Turning.{Turning}
-use Rattle.iw_stream.specs.declared.judging.Turning.TheVariants as turnings
+use Rattle.iw_stream.specs.declared.landing.PlacedFrame.{PlacedFrame}
+use Rattle.iw_stream.specs.declared.landing.Turning.{Turning}
+use Rattle.iw_stream.specs.declared.landing.Turning.TheVariants as turnings
 use Rattle.iw_stream.specs.Ending.{last_word}
 use Rattle.iw_stream.specs.Frames.{EarlyRecord, head_in, payload_len}
 use Rattle.iw_stream.specs.Starting.{is_open, expecting, first_place_in, first_place_out}

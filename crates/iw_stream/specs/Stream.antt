@@ -50,7 +50,7 @@ use Rattle.iw_stream.specs.declared.answer.SizeRefusal.{SizeRefusal}
 use Rattle.iw_stream.specs.declared.answer.SizeRefusal.TheVariants.{BadSize}
 use Rattle.iw_stream.specs.declared.answer.Standing.{Standing}
 use Rattle.iw_stream.specs.declared.answer.Standing.TheVariants as standings
-use Rattle.iw_stream.specs.declared.judging.PlacedFrame.{PlacedFrame}
+use Rattle.iw_stream.specs.declared.landing.PlacedFrame.{PlacedFrame}
 use Rattle.iw_stream.specs.declared.ending.Ending.{Ending}
 use Rattle.iw_stream.specs.declared.ending.Ending.TheVariants.{Runs, Over, Broken}
 use Rattle.iw_stream.specs.Ending.{has_ended, is_broken, last_word, with_last_word}

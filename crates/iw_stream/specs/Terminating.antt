@@ -6,7 +6,7 @@ use Rattle.iw_rdmap.specs.Head.{is_request}
 use Rattle.iw_rdmap.specs.Judging.{judged}
 use Rattle.iw_rdmap.specs.Terminate.{terminate_octets}
 use Rattle.iw_reads.specs.Requests.{Requested, oldest_headers}
-use Rattle.iw_stream.specs.declared.judging.PlacedFrame.{PlacedFrame}
+use Rattle.iw_stream.specs.declared.landing.PlacedFrame.{PlacedFrame}
 use Rattle.iw_stream.specs.Frames.{Frame}
 
 -- the header passed its checks, and is a Read Request's

@@ -24,11 +24,11 @@ use Rattle.iw_startup.specs.declared.progress.Progress.TheVariants as progress
 use Rattle.iw_untagged.specs.Receiving.{Receiving, exchanged, finished, first_buffer, flushed, oldest}
 use Rattle.iw_stream.specs.declared.answer.Step.{Step}
 use Rattle.iw_stream.specs.declared.answer.Step.TheVariants as steps
-use Rattle.iw_stream.specs.declared.judging.Landing.{Landing}
-use Rattle.iw_stream.specs.declared.judging.Landing.TheVariants.{Write, Response, Send, Request, Terminate}
-use Rattle.iw_stream.specs.declared.judging.PlacedFrame.{PlacedFrame}
-use Rattle.iw_stream.specs.declared.judging.Turning.{Turning}
-use Rattle.iw_stream.specs.declared.judging.Turning.TheVariants.{Passed, Completed, Answered}
+use Rattle.iw_stream.specs.declared.landing.Landing.{Landing}
+use Rattle.iw_stream.specs.declared.landing.Landing.TheVariants.{Write, Response, Send, Request, Terminate}
+use Rattle.iw_stream.specs.declared.landing.PlacedFrame.{PlacedFrame}
+use Rattle.iw_stream.specs.declared.landing.Turning.{Turning}
+use Rattle.iw_stream.specs.declared.landing.Turning.TheVariants.{Passed, Completed, Answered}
 use Rattle.iw_stream.specs.Frames.{Frame, frame_by, frame_at, segment_in, payload_of, placed, payload_len, record_tried, state_tried, placed_at, without}
 use Rattle.iw_stream.specs.Judging.{Standing, verdict, early_verdict, table_landed, receiving_landed, turn_of, table_turned, receiving_turned, reads_left, table_tried, receiving_tried}
 use Rattle.iw_stream.specs.Starting.{StartState, is_open, expecting, first_place_in, awaits_frame, progress_in, heard, agreement_in, mismatch_in, negotiation_fault}

@@ -18,7 +18,7 @@ ghost use Rattle.iw_stream.specs.Frames.{IsNext as IsNextFrame, frame_at, frame_
 mod lending;
 mod reading;
 
-use crate::judging::{Header, PlacedFrame, copy_of};
+use crate::landing::{Header, PlacedFrame, copy_of};
 use iw_fpdu::{Fpdu, Layout, span_of};
 use iw_locate::{Frame, Judged, Locator, Next, RecordRefusal, State, Unsearched};
 use iw_ranges::{Delivery, Islands};

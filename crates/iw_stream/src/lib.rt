@@ -70,15 +70,15 @@
 #![tactic(auto)]
 
 mod answer;
-mod emitting;
+mod effects;
 mod ending;
 mod incoming;
 mod intake;
-mod judging;
+mod landing;
 mod starting;
 mod stream;
 mod terminating;
-mod turning;
+mod writing;
 
 pub use answer::{
     AnswerRefusal, Emission, FirstRefusal, INSUFFICIENT_IRD, NO_MATCHING_RTR, OpenRefusal,
@@ -93,6 +93,6 @@ pub use iw_startup::{
     Agreed, Config, EnhancedData, Establishment, MAX_ENHANCED_PRIVATE, PeerOptions, PrivateData,
     StartupFault,
 };
-pub use judging::{Landing, PlacedFrame, Turning};
+pub use landing::{Landing, PlacedFrame, Turning};
 pub use starting::exceeds_request;
 pub use stream::Stream;

@@ -18,12 +18,12 @@ use self::emission::is_read;
 use crate::answer::{
     AnswerRefusal, FirstRefusal, PostRefusal, RecvRefusal, Role, SizeRefusal, Standing,
 };
-use crate::emitting::Numbers;
 use crate::ending::Ending;
 use crate::incoming::Incoming;
-use crate::judging::PlacedFrame;
+use crate::landing::PlacedFrame;
 use crate::starting::Start;
 use crate::terminating::{LastWord, over};
+use crate::writing::Numbers;
 use bytes::Bytes;
 use iw_memory::Peer;
 use iw_octets::MAX_ULPDU;

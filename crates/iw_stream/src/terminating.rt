@@ -9,7 +9,7 @@ ghost use Rattle.iw_stream.specs.Work.{clash_fault};
 
 use crate::ending::Ending;
 use crate::incoming::Incoming;
-use crate::judging::{PlacedFrame, first_octets};
+use crate::landing::{PlacedFrame, first_octets};
 use crate::starting::Start;
 use arrayvec::ArrayVec;
 use iw_fpdu::Fpdu;

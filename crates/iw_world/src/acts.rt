@@ -369,7 +369,7 @@ fn peers_word<A: Allocator>(endpoint: &Endpoint<A>, number: u32) -> Option<Enhan
     requires { has_stream endpoint.now number ≡ true }
     ensures { result ≡ told_at endpoint.now number }
 {
-    match endpoint.told(number) {
+    match endpoint.peer_enhanced(number) {
         Ok(told) => told,
         Err(_) => unreachable!(),
     }

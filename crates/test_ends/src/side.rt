@@ -616,13 +616,13 @@ impl<'h> Side<'h> {
 
     fn see_asked(&self, meter: &mut Meter<'h>, number: u32) -> SeenStep<'h> {
         let private = self.private(meter, number)?;
-        let told = there(self.endpoint.told(number))?;
+        let told = there(self.endpoint.peer_enhanced(number))?;
         Ok(Seen::Asked { told, private })
     }
 
     fn see_opened(&self, meter: &mut Meter<'h>, number: u32, agreed: Agreed) -> SeenStep<'h> {
         let private = self.private(meter, number)?;
-        let told = there(self.endpoint.told(number))?;
+        let told = there(self.endpoint.peer_enhanced(number))?;
         Ok(Seen::Opened {
             agreed,
             told,

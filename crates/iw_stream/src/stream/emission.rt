@@ -14,9 +14,9 @@ ghost use Rattle.iw_stream.specs.Stream.{is_read, reads_with};
 
 use super::Stream;
 use crate::answer::Emission;
-use crate::emitting::{Numbers, rtr_request, write_part, write_rtr, write_tagged, write_terminate};
 use crate::ending::Ending;
 use crate::terminating::terminate_fetched;
+use crate::writing::{Numbers, rtr_request, write_part, write_rtr, write_tagged, write_terminate};
 use bytes::Bytes;
 use iw_memory::{Memory, Peer};
 use iw_octets::Message;

@@ -17,14 +17,14 @@ ghost use Rattle.iw_reads.specs.Source.{IsInRange};
 
 use super::Stream;
 use crate::answer::Step;
+use crate::effects::is_response;
 use crate::ending::Ending;
 use crate::incoming::{Incoming, frame_at, held_at};
-use crate::judging::{
+use crate::landing::{
     Buffered, Header, Landing, PlacedFrame, header_of, keep_frame, keep_tagged, land_early,
     land_frame, land_send, land_tagged, landing_of, placed_frame, tagged_parts,
 };
 use crate::terminating::{LastWord, terminate_clashed, terminate_judged};
-use crate::turning::is_response;
 use iw_fpdu::Fpdu;
 use iw_locate::{Frame as EarlyFrame, Next, State};
 use iw_memory::{Memory, Peer, Right};

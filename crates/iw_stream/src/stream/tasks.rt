@@ -6,7 +6,7 @@ use super::Stream;
 use super::judgement::landed_step;
 use crate::answer::Step;
 use crate::ending::Ending;
-use crate::judging::Buffered;
+use crate::landing::Buffered;
 use crate::starting::{negotiation_fault, octets_in_order};
 use crate::terminating::terminate_alone;
 use iw_memory::Memory;

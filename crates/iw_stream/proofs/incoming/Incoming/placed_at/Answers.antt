@@ -1,6 +1,6 @@
 use Rattle.std.proofs.Common.{Some, sym, ap, ◌∙◌}
 use Rattle.iw_stream.specs.Frames.{kept_by, placed_at}
-use Rattle.iw_stream.specs.declared.judging.PlacedFrame.{PlacedFrame}
+use Rattle.iw_stream.specs.declared.landing.PlacedFrame.{PlacedFrame}
 use Rattle.iw_stream.specs.Incoming.{Coming}
 use Rattle.iw_stream.proofs.Arriving.{placed_there, placed_none}
 use Rattle.iw_stream.proofs.incoming.Incoming.placed_at.Goals as goal

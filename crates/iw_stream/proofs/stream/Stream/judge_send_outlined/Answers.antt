@@ -3,7 +3,7 @@ use Rattle.std.specs.Option.{option_map_or}
 use Rattle.iw_memory.specs.Table.{empty}
 use Rattle.iw_stream.specs.Fields.{state_of}
 use Rattle.iw_fpdu.specs.Places.{frame_start}
-use Rattle.iw_stream.specs.declared.judging.Landing.TheVariants.{Send}
+use Rattle.iw_stream.specs.declared.landing.Landing.TheVariants.{Send}
 use Rattle.iw_stream.specs.Frames.{Frame, IsNext, placed, frame_by}
 use Rattle.iw_stream.specs.Kept.{Keeps}
 use Rattle.iw_stream.specs.Starting.{is_open, expecting, first_place_in}

@@ -2,8 +2,8 @@ use Rattle.std.proofs.Common.{◌≡◌, ◌-◌, false, true, Some, Ok, length,
 use Rattle.std.specs.Option.{option_map, option_map_or}
 use Rattle.iw_fpdu.specs.Places.{frame_start}
 use Rattle.iw_stream.specs.Fields.{state_of}
-use Rattle.iw_stream.specs.declared.judging.Landing.TheVariants.{Request, Terminate}
-use Rattle.iw_stream.specs.declared.judging.PlacedFrame.{PlacedFrame}
+use Rattle.iw_stream.specs.declared.landing.Landing.TheVariants.{Request, Terminate}
+use Rattle.iw_stream.specs.declared.landing.PlacedFrame.{PlacedFrame}
 use Rattle.iw_stream.specs.Frames.{Frame, IsNext, placed, frame_at, frame_by}
 use Rattle.iw_stream.specs.Kept.{Keeps, Stands, NoneReachesOver}
 use Rattle.iw_stream.specs.Starting.{is_open, expecting, first_place_in}

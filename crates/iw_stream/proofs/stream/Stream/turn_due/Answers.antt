@@ -1,6 +1,6 @@
 use Rattle.std.specs.Prelude.{IfSome, Option}
 use Rattle.std.specs.Option.{option_map_or}
-use Rattle.iw_stream.specs.declared.judging.PlacedFrame.{PlacedFrame}
+use Rattle.iw_stream.specs.declared.landing.PlacedFrame.{PlacedFrame}
 use Rattle.std.proofs.Common.{◌≡◌, ◌+◌, ◌<◌, ◌^◌, false, true, Ok, Err, ap, sym, ◌∙◌, subst, arith}
 use Rattle.iw_stream.specs.Fields.{state_of}
 use Rattle.iw_fpdu.specs.declared.layout.Layout.{Layout}
@@ -17,7 +17,7 @@ use Rattle.iw_stream.specs.Judging.{turn_of}
 use Rattle.iw_stream.specs.Stream.{ends_by}
 use Rattle.iw_stream.specs.Work.{Turn, Rest, standing, after_turn, left_by, step_of, turned_step}
 use Rattle.iw_stream.proofs.Origins.{received_whole, turned_fits}
-use Rattle.iw_stream.specs.declared.judging.Turning.TheVariants.{Completed}
+use Rattle.iw_stream.specs.declared.landing.Turning.TheVariants.{Completed}
 use Rattle.iw_stream.specs.declared.answer.Step.TheVariants.{Received}
 use Rattle.iw_untagged.specs.Receiving.{received}
 use Rattle.iw_stream.proofs.Keeping.{frame_stays, keeps_past, placed_front, reaches, turn_finishes, turn_stays}
