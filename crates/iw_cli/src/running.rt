@@ -1,6 +1,6 @@
+use crate::command_line::iwarp;
 use crate::task::{Task, task_of};
 use clap::error::ErrorKind;
-use iw_command_line::iwarp;
 use iw_commands::{CommandFault, Request, connect, listen, pair};
 use iw_links::MOST_TEXT;
 use iw_output::Status;

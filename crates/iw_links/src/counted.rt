@@ -4,11 +4,9 @@ ghost use Rattle.std.specs.Io.KnownBytes.{Consumes, IsAtEnd, Keeps};
 ghost use Rattle.iw_endpoint.specs.Reading.{IsRead};
 
 use iw_connection::{CallRefusal, Endpoint, Intake, StreamNumber, take};
+use iw_output::MOST_READS;
 use std::io::{ErrorKind, Read};
 use thiserror::Error;
-
-/// The most reads of one input.
-pub const MOST_READS: u32 = 1_000_000;
 
 /// Why nothing was read.
 #[derive(Clone, Copy, Debug, PartialEq, Eq, Error)]

@@ -17,8 +17,9 @@ mod report;
 mod serving;
 
 pub use asking::ask;
-pub use counted::{Counted, MOST_READS, ReadFault};
+pub use counted::{Counted, ReadFault};
 pub use exchange::Terms;
+pub use iw_output::MOST_READS;
 pub use link::{MOST_TEXT, caller, listener};
 pub use output::{Half, Output};
 pub use report::{Ended, Report};

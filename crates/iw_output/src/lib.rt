@@ -1,4 +1,5 @@
-//! How a run of the program ends; and writes of octets to an output: all of them, or as many as it takes.
+//! How a run of the program ends; the most reads of one input; and writes of octets to an output: all of them, or as many as
+//! it takes.
 #![tactic(auto)]
 
 ghost use Rattle.std.specs.Prelude.{◌≡◌, ◌≤◌, length, take, MatchResult};
@@ -9,6 +10,9 @@ mod status;
 pub use status::Status;
 use std::io::{ErrorKind, Write};
 use thiserror::Error;
+
+/// The most reads of one input, a schedule or a connection: so each loop over an input ends.
+pub const MOST_READS: u32 = 1_000_000;
 
 /// How many octets a writer took before it failed.
 #[derive(Clone, Copy, Debug, PartialEq, Eq, Error)]

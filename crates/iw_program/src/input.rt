@@ -3,13 +3,11 @@ ghost use Rattle.std.specs.Io.KnownBytes.{Consumes, IsAtEnd};
 ghost use Rattle.iw_program.specs.Replay.{IsReadFault};
 
 use crate::fault::{Refusal, ReplayFault};
+use iw_output::MOST_READS;
 use std::alloc::Allocator;
 use std::io::{ErrorKind, Read};
 
-/// The most reads of one input.
-const MAX_READS: u32 = 1_000_000;
-
-/// The most octets of one read. With `MAX_READS` it bounds an input to some 4 GB.
+/// The most octets of one read. With `MOST_READS` it bounds an input to some 4 GB.
 const MAX_READ_OCTETS: usize = 4_096;
 
 // Reads once, and appends what was read. Returns whether the input may go on.
@@ -46,7 +44,7 @@ pub(crate) fn read_text<R: Read, A: Allocator>(
 {
     let mut text = Vec::new(alloc);
     let mut buffer = [0; MAX_READ_OCTETS];
-    'reads: for _ in 0..MAX_READS {
+    'reads: for _ in 0..MOST_READS {
         if !read_once(input, &mut buffer, &mut text)? {
             return Ok(text);
         }

@@ -1,6 +1,4 @@
-//! The command line of `iwarp`: its commands, with their options and their help. It is a crate of its own, so that it
-//! is built in parallel with what the commands do.
-#![tactic(auto)]
+//! The command line of `iwarp`: its commands, with their options and their help.
 
 use clap::{Arg, ArgAction, Command, value_parser};
 use std::alloc::Global;
@@ -153,7 +151,7 @@ fn pair<'a>(alloc: Global) -> Result<Command<'a>, clap::Error> {
 }
 
 /// The command line. An `Err` means out of memory.
-pub fn iwarp<'a>(alloc: Global) -> Result<Command<'a>, clap::Error> {
+pub(crate) fn iwarp<'a>(alloc: Global) -> Result<Command<'a>, clap::Error> {
     Ok(
         Command::new(alloc, "iwarp")
             .version("1.2.0")
