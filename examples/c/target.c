@@ -2,11 +2,10 @@
  * back as many octets of the region as the Send had. `target --help` says how it is run; `iwarp connect --port Q` is its peer.
  *
  * Each connection has a stream, which is opened for it and closed once it is over, and a region that is registered for this
- * stream, so that no peer reaches another's region, whatever STag it names; and the STag is drawn, so that none can guess it. A domain
- * has room for 1,024 regions, so there is a
- * domain for each 1,024 connections: one more is added when all places are taken. A connection that finds no room is closed, and
- * one for which memory runs out is ended; the others go on. If the system has no descriptor left, connections wait until there is
- * one.
+ * stream, so that no peer reaches another's region, whatever STag it names; and the STag is drawn, so that none can guess it. A
+ * domain has room for 1,024 regions, so there is a domain for each 1,024 connections: one more is added when all places are taken.
+ * A connection that finds no room, or would pass --most-memory, is closed, and one for which memory runs out is ended; the others
+ * go on. If the system has no descriptor left, connections wait until there is one.
  *
  * A region is made invalid before its octets are read: until then its peer may change them (RFC 5042 6.2.2). Nothing blocks: what
  * a socket does not take is kept, and the connection is not read while it is; a peer that is silent, or reads nothing, for
@@ -18,6 +17,8 @@
 #include "waiting.h"
 
 enum { BUFFER = 4096, REGION = BUFFER, EVENTS = 64, PLACES = 1024, MOST_DOMAINS = 255, MOST_BUFFERS = 1024 };
+/* What a connection takes at most: less than 1 MiB for what came, and 1 MiB for 256 answers that are posted. */
+enum { CONNECTION_MIB = 2, MOST_MIB = 1 << 20 };
 
 struct connection {
     struct carried carried; /* its stream and its socket, first of all; the socket is -1 if the place is free */
@@ -48,6 +49,7 @@ static struct iwarp_buffer message = IWARP_NO_BUFFER; /* a receive buffer, betwe
 static uint32_t options;
 static int pooled; /* how many buffers a domain's pool has; 0 if each stream has its own */
 static size_t share; /* how many of them a stream may have bound at once; 0: all */
+static long most_live; /* how many connections there may be at once; 0: as many as find a place */
 static int poller, listener, failures;
 static long count, begun, live;
 static int listens; /* whether the listener is watched */
@@ -97,6 +99,7 @@ static int add_domain(void) {
 
 /* A free place, or none. */
 static struct connection *take_place(void) {
+    if (most_live > 0 && live == most_live) return 0;
     if (!free_places && !add_domain()) return 0;
     struct connection *place = free_places;
     free_places = place->next;
@@ -380,7 +383,7 @@ static void serve(void) {
 }
 
 static const char usage[] =
-    "usage: target [--pool-share N] [COUNT [OPTIONS [PORT [BUFFERS [DOMAINS]]]]]\n"
+    "usage: target [--pool-share N] [--most-memory MIB] [COUNT [OPTIONS [PORT [BUFFERS [DOMAINS]]]]]\n"
     "\n"
     "Prints `port Q`, serves COUNT connections at that port of 127.0.0.1, and prints a line for each\n"
     "Send that it received, and for each connection that failed, with the reason. The status is 1 if\n"
@@ -394,21 +397,24 @@ static const char usage[] =
     "  DOMAINS  1 to 255, 255 if left out: for each, 1024 connections are served at a time; each\n"
     "           takes a descriptor (ulimit -n)\n"
     "\n"
-    "  --pool-share N   1 to 1024: of the BUFFERS that streams share, each may have so many bound to\n"
-    "                   Sends at once; one more ends that stream alone. As many as there are if left out\n";
+    "  --pool-share N     1 to 1024: of the BUFFERS that streams share, each may have so many bound to\n"
+    "                     Sends at once; one more ends that stream alone. As many as there are if left out\n"
+    "  --most-memory MIB  2 to 1048576: for all connections together, 2 for each; one that would pass\n"
+    "                     it is closed. As many as find a place if left out\n";
 
-/* Takes the option in front of the other words, if it is there: then these begin behind it. */
-static size_t share_of(int *n, char ***all) {
-    if (*n < 2 || strcmp((*all)[1], "--pool-share") != 0) return 0;
+/* Takes an option and its number, if they stand in front of the other words: then these begin behind them. */
+static long option(const char *name, long least, long most_of_it, int *n, char ***all) {
+    if (*n < 2 || strcmp((*all)[1], name) != 0) return 0;
     struct words words = words_of(*n < 3 ? *n : 3, *all, 2, 2, usage);
-    size_t number = (size_t)number_of(&words, 1, 1, MOST_BUFFERS, 0);
+    long number = number_of(&words, 1, least, most_of_it, 0);
     *n -= 2;
     *all += 2;
     return number;
 }
 
 int main(int n, char **all) {
-    share = share_of(&n, &all);
+    share = (size_t)option("--pool-share", 1, MOST_BUFFERS, &n, &all);
+    most_live = option("--most-memory", CONNECTION_MIB, MOST_MIB, &n, &all) / CONNECTION_MIB;
     struct words words = words_of(n, all, 0, 5, usage);
     count = number_of(&words, 0, 0, 1000000000, 1);
     options = (uint32_t)number_of(&words, 1, 0, IWARP_MARKERS | IWARP_CRC | IWARP_ENHANCED, 0);

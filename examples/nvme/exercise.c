@@ -737,6 +737,27 @@ static void few_files(void) {
     compares();
 }
 
+static void expect_close(int fd) {
+    struct pollfd polled = {fd, POLLIN, 0};
+    CHECK(poll(&polled, 1, 6000) == 1);
+    close(fd);
+}
+
+/* The target has memory for two connections: of those that say nothing the oldest gives way, and one more than a host's two is
+ * closed. */
+static void few_places(void) {
+    enum { CALLERS = 5 };
+    static uint8_t in[4096];
+    int fds[CALLERS];
+    struct host host = new_host();
+    for (int i = 0; i < CALLERS; i++) fds[i] = plain_connection();
+    CHECK(host_begin(&host, 1, HOST_DEPTH));
+    for (int i = 0; i < CALLERS; i++) expect_close(fds[i]);
+    expect_close(plain_connection());
+    CHECK(read_blocks(host.queues[1], 0, in, sizeof in, SGL_KEYED_INVALIDATE) == 0);
+    host_end(&host);
+}
+
 /* A Write that waits for a Read's place, as the host answers none, holds up no command behind it. */
 static void passes_by(void) {
     struct host host = new_host();
@@ -1003,7 +1024,7 @@ static const struct {
     {"is-killed", is_killed},     {"stands-by", stands_by},
     {"is-stopped", is_stopped},   {"was-stopped", was_stopped},
     {"read-only", is_read_only},  {"not-allowed", is_not_allowed},
-    {"hangs", hangs},
+    {"hangs", hangs},             {"few-places", few_places},
 };
 
 int main(int n, char **words) {

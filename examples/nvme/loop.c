@@ -17,12 +17,27 @@ static int watch(struct target *target, int fd, void *as) {
 
 /* ---- connections */
 
-/* Closes the oldest of those that have not got as far as Connect, or drain. */
-static void close_oldest(struct target *target) {
+/* Closes the oldest of those that have not got as far as Connect, or drain; if `idle`, of those of which no worker has a command,
+ * so that its memory is freed in this turn. Returns whether there was one. */
+static int close_oldest(struct target *target, int idle) {
     struct queue *oldest = 0;
     for (struct queue *it = target->queues; it; it = it->next)
-        if (queue_is_starting(it->state)) oldest = it;
+        if (queue_is_starting(it->state) && (!idle || it->jobs == 0)) oldest = it;
     if (oldest) queue_close(oldest);
+    return oldest != 0;
+}
+
+/* There are as many connections as there is memory for. */
+static int is_full(const struct target *target) {
+    return target->options.most_queues > 0 && target->queues_made >= target->options.most_queues;
+}
+
+/* Makes a place for a connection, if there is none, by the close of one that has not got as far as Connect, or drains. Returns
+ * whether there is one. */
+static int make_place(struct target *target) {
+    int full = is_full(target);
+    if (!full && target->starting < MOST_STARTING) return 1;
+    return close_oldest(target, full) || !full;
 }
 
 static void set_seconds(int fd, int option, uint64_t ms) {
@@ -44,7 +59,11 @@ static void set_options(const struct target *target, int fd) {
 }
 
 static void begin(struct target *target, int fd, uint32_t address) {
-    if (target->starting >= MOST_STARTING) close_oldest(target);
+    if (!make_place(target)) {
+        if (target->options.verbose) printf("a connection was refused: there is no memory for more\n");
+        close(fd);
+        return;
+    }
     set_options(target, fd);
     struct queue *queue = queue_open(target, fd, address);
     if (!queue)
@@ -72,6 +91,7 @@ static void accept_some(struct target *target) {
         int fd = accept4(target->listener, (struct sockaddr *)&from, &n, SOCK_NONBLOCK | SOCK_CLOEXEC);
         if (fd >= 0) {
             begin(target, fd, from.sin_addr.s_addr);
+            if (is_full(target)) return; /* the next turn goes on, once the memory of one that gave way is freed */
         } else if (errno == EMFILE || errno == ENFILE || errno == ENOBUFS || errno == ENOMEM) {
             rest(target);
             return;

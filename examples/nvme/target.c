@@ -1,7 +1,7 @@
 /* The target's options. `target --help` tells them. */
 #include "target.h"
 
-enum { MOST_RAM_MIB = 1 << 20, MOST_SECONDS = 86400, OTHER_FILES = 64, FILES = MOST_QUEUES + OTHER_FILES };
+enum { MOST_RAM_MIB = 1 << 20, MOST_MEMORY_MIB = 1 << 20, MOST_SECONDS = 86400, OTHER_FILES = 64, FILES = MOST_QUEUES + OTHER_FILES };
 
 static const char help[] =
     " [OPTION VALUE].. [FLAG]..\n"
@@ -17,6 +17,7 @@ static const char help[] =
     "  --tell A         the address that discovery tells (the one that the host has reached)\n"
     "  --mulpdu N       octets of an FPDU's payload, 128 to 64512 (as TCP's segments have)\n"
     "  --workers N      threads that read and write the file (4)\n"
+    "  --most-memory N  MiB for all connections, 6 for each: no more are taken than fit (as many as there can be)\n"
     "  --start SECONDS  a connection has this long to get as far as Connect (10)\n"
     "  --stall SECONDS  a host has this long to take what is sent to it (30)\n"
     "  --crc            use CRCs\n"
@@ -64,6 +65,14 @@ static int allow(struct options *options, const char *name) {
     return 1;
 }
 
+/* So many MiB are for connections. */
+static int read_memory(const char *text, unsigned *most_queues) {
+    unsigned mib;
+    if (!read_unsigned(text, MOST_MEMORY_MIB, &mib)) return 0;
+    *most_queues = mib / QUEUE_MIB;
+    return *most_queues > 0;
+}
+
 /* Takes an option and its value. Returns whether both are right. */
 static int take(struct options *options, const char *word, const char *value) {
     if (strcmp(word, "--file") == 0) return read_text(value, &options->file);
@@ -76,6 +85,7 @@ static int take(struct options *options, const char *word, const char *value) {
     if (strcmp(word, "--tell") == 0) return read_text(value, &options->told_address);
     if (strcmp(word, "--mulpdu") == 0) return read_unsigned(value, MOST_MULPDU, &options->mulpdu) && options->mulpdu >= LEAST_MULPDU;
     if (strcmp(word, "--workers") == 0) return read_unsigned(value, MOST_WORKERS, &options->workers) && options->workers > 0;
+    if (strcmp(word, "--most-memory") == 0) return read_memory(value, &options->most_queues);
     if (strcmp(word, "--start") == 0) return read_seconds(value, &options->start_ms);
     if (strcmp(word, "--stall") == 0) return read_seconds(value, &options->stall_ms);
     return 0;

@@ -24,6 +24,7 @@ enum {
     DOMAIN_QUEUES = 1 + MOST_IO_QUEUES, /* of 128 commands, each of which may have a region: a domain has 1,024 */
     MOST_STARTING = 256, /* connections that have not got as far as Connect, or drain: of more, the oldest is closed */
     MOST_QUEUES = MOST_CONTROLLERS * DOMAIN_QUEUES + MOST_STARTING,
+    QUEUE_MIB = 6, /* that a queue takes at most: MOST_DATA, its commands' capsules, and what the library keeps for its stream */
     MOST_ASYNC_EVENTS = 4,
     MOST_SENT = MIB, /* octets, of a queue in a turn of the loop, and what is gathered then */
     MOST_WORKERS = 64,
@@ -205,6 +206,7 @@ struct options {
     const char *file, *address, *told_address, *nqn, *serial;
     uint64_t ram_mib;
     unsigned port, options, mulpdu, workers, verbose;
+    unsigned most_queues; /* at once; 0: as many as there can be */
     int read_only;
     uint64_t start_ms, stall_ms;
     const char *allowed[MOST_ALLOWED]; /* the names of hosts; if there are none, each may connect */
