@@ -598,7 +598,7 @@ struct iwarp_event {
     uint32_t stag;
     uint32_t msn;
     uint32_t mo;
-    uint32_t layer;
+    uint32_t layer; /* of a fault: its layer, error type and error code (RFC 5040 4.8) */
     uint32_t error;
     uint32_t code;
     uint64_t to;
