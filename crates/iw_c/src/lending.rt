@@ -1,6 +1,6 @@
 // Octets that the program reads to a place that is lent.
 ghost use Rattle.std.specs.Prelude.{◌≡◌, ◌≢◌, ◌⊎◌, ◌<◌, pos, Some, IfSome, IfNone, IsSomeAnd};
-ghost use Rattle.iw_handle.specs.Lending.{lendable_at, IsFull, lent_at, lent_in, HasTaken};
+ghost use Rattle.iw_handle.specs.Lending.{lendable_at, IsFull, IsUnlent, lent_at, lent_in, HasTaken};
 ghost use Rattle.iw_handle.specs.Refusals.{refusal_code};
 ghost use Rattle.iw_handle.specs.State.{called_on, refusal_in, told_in, stream_refusal};
 
@@ -41,8 +41,8 @@ pub extern "C" fn iwarp_came(alloc: Global, handle: &mut Handle, number: u32, n:
         (λ r. result ≡ pos (refusal_code r)) }
     ensures more { IfSome handle.old.state (λ held. IfNone (stream_refusal held.endpoint number)
         (lent_at held number < n → result ≡ pos 39)) }
-    ensures why { IfNone (refusal_in handle.old.state (λ e. stream_refusal e number))
-        ((result ≡ pos 0) ⊎ (result ≡ pos 39)) }
+    ensures why { IfSome handle.old.state (λ held. IfNone (stream_refusal held.endpoint number)
+        ((result ≡ pos 0) ⊎ (((result ≡ pos 39) × IsUnlent held number n) ⊎ (result ≡ pos 3)))) }
     ensures ok { result ≡ pos 0 →
         IfSome handle.old.state (λ held. IsSomeAnd handle.new.state (λ after. HasTaken held number n after)) }
     ensures err { result ≢ pos 0 → handle.new.state ≡ handle.old.state }

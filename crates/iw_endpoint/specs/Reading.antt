@@ -5,7 +5,8 @@ use Rattle.iw_ranges.specs.declared.Delivery.TheVariants.{Kept}
 use Rattle.iw_stream.specs.declared.intake.Intake.{Intake}
 use Rattle.iw_stream.specs.declared.intake.Intake.TheVariants.{Came, End, Full}
 use Rattle.iw_stream.specs.declared.intake.TheConstants.{MOST_READ}
-use Rattle.iw_stream.specs.Reading.{number_past, room_ahead}
+use Rattle.iw_stream.specs.declared.intake.TakeLentRefusal.{TakeLentRefusal}
+use Rattle.iw_stream.specs.Reading.{number_past, room_ahead, IsNotTaken}
 use Rattle.iw_stream.specs.Stream.{StreamState, ended}
 use Rattle.iw_endpoint.specs.declared.refusal.CallRefusal.{CallRefusal}
 use Rattle.iw_endpoint.specs.declared.refusal.CallRefusal.TheVariants as calls
@@ -44,6 +45,11 @@ IsNotLent s places.NoMemory = Unit {0}
 abbrev pub IsNotLentAt : EndpointState → ℕ → CallRefusal PlaceRefusal → Type 0
 IsNotLentAt e number calls.NoSuchStream = Unit {0}
 IsNotLentAt e number (calls.Refused refusal) = IsNotLent (stream_at e number) refusal
+
+-- why n octets are not taken
+abbrev pub IsNotTakenAt : EndpointState → ℕ → ℕ → CallRefusal TakeLentRefusal → Type 0
+IsNotTakenAt e number n calls.NoSuchStream = Unit {0}
+IsNotTakenAt e number n (calls.Refused refusal) = IsNotTaken (stream_at e number) n refusal
 
 -- the n octets that stood in the lent place came: one delivery, past the last octet that came; none is dropped if the stream runs
 pub record Counts (old new : EndpointState) (number n : ℕ) : Type 0 where

@@ -20,7 +20,7 @@
 //! pool, none wants for a buffer because of another ([`steps_keep_shares`], [`shares_suffice`]).
 //!
 //! In place of `read_from`, a program that reads by a call of its own reads to the place that `lend_place` names, and tells by
-//! `came` how many octets it read there. One whose octets come in another order than the peer sent them hands them in by
+//! `take_lent` how many octets it read there. One whose octets come in another order than the peer sent them hands them in by
 //! `deliver`, with their sequence number.
 //!
 //! A stream ends by a fault, by the peer's Terminate, in its start-up, or when the application reports a broken link
@@ -124,7 +124,7 @@ pub use iw_stream::{
     Agreed, AnswerRefusal, Config, Delivery, Emission, EnhancedData, Establishment, FirstRefusal,
     INSUFFICIENT_IRD, Intake, Kind, MAX_ENHANCED_PRIVATE, MOST_READ, NO_MATCHING_RTR, OpenRefusal,
     PeerOptions, PostRefusal, PrivateData, RecvRefusal, Request, Role, SizeRefusal, Standing,
-    StartupFault, Step,
+    StartupFault, Step, TakeLentRefusal,
 };
 pub use laws::{
     calls_concern_one_domain, domains_are_alone, emit_comes_to_rest, known_calls, known_frames,

@@ -1,12 +1,13 @@
 // Octets that the program reads to a place that is lent.
 ghost use Rattle.std.specs.Prelude.{◌≡◌, ◌⊎◌, ◌<◌, IfSome, IfNone, IfOk, IfErr, OnOk, OnErr, IsSomeAnd, Some};
-ghost use Rattle.iw_handle.specs.Lending.{lendable_at, IsFull, lent_at, held_lent, lent_in, HasTaken};
+ghost use Rattle.iw_handle.specs.Lending.{lendable_at, IsFull, IsNoPlace, IsUnlent, lent_at, held_lent, lent_in, HasTaken};
+ghost use Rattle.iw_endpoint.specs.Reading.{Counts};
 ghost use Rattle.iw_handle.specs.State.{called_on, refusal_in, told_in, stream_refusal};
 
 use crate::handle::Handle;
 use crate::held::Held;
 use crate::refusal::Refusal;
-use iw_endpoint::{CallRefusal, Endpoint, PlaceRefusal};
+use iw_endpoint::{CallRefusal, Endpoint, PlaceRefusal, TakeLentRefusal};
 use std::alloc::Global;
 use std::ptr::null_mut;
 
@@ -52,11 +53,26 @@ fn room(held: &mut Held, number: u32, want: usize, at: &mut *mut u8) -> Result<u
     Ok(n)
 }
 
+// Takes octets that stand in the place that is lent.
+fn came_at(endpoint: &mut Endpoint, number: u32, n: usize) -> Result<(), Refusal>
+    ensures why { IfNone (stream_refusal endpoint.old number)
+        (IfErr result (λ e. ((e ≡ Refusal.NotLent) × IsNoPlace endpoint.old number n) ⊎ (e ≡ Refusal.NoMemory))) }
+    ensures ok { OnOk result (Counts endpoint.old endpoint.new number n) }
+    ensures err { OnErr result (endpoint.new ≡ endpoint.old) }
+{
+    match endpoint.take_lent(number, n) {
+        Ok(()) => Ok(()),
+        Err(CallRefusal::Refused(TakeLentRefusal::NoMemory)) => Err(Refusal::NoMemory),
+        Err(_) => Err(Refusal::NotLent),
+    }
+}
+
 fn came(held: &mut Held, number: u32, n: usize) -> Result<(), Refusal>
     ensures refused { IfSome (stream_refusal held.old.endpoint number) (λ r. result ≡ Err r) }
     ensures more { IfNone (stream_refusal held.old.endpoint number)
         (lent_at held.old number < n → result ≡ Err Refusal.NotLent) }
-    ensures why { IfNone (stream_refusal held.old.endpoint number) (IfErr result (λ e. e ≡ Refusal.NotLent)) }
+    ensures why { IfNone (stream_refusal held.old.endpoint number)
+        (IfErr result (λ e. ((e ≡ Refusal.NotLent) × IsUnlent held.old number n) ⊎ (e ≡ Refusal.NoMemory))) }
     ensures ok { OnOk result (HasTaken held.old number n held.new) }
     ensures err { OnErr result (held.new ≡ held.old) }
 {
@@ -66,13 +82,9 @@ fn came(held: &mut Held, number: u32, n: usize) -> Result<(), Refusal>
     if held.lends.lent(number) < n {
         return Err(Refusal::NotLent);
     }
-    match held.endpoint.came(number, n) {
-        Ok(true) => {
-            held.lends.take_back(number);
-            Ok(())
-        }
-        _ => Err(Refusal::NotLent),
-    }
+    came_at(&mut held.endpoint, number, n)?;
+    held.lends.take_back(number);
+    Ok(())
 }
 
 impl Handle {
@@ -111,14 +123,14 @@ impl Handle {
     }
 
     /// Takes the first `n` octets that stand in the place that was lent last as one delivery, past the last octet that came
-    /// ([`Endpoint::came`]). Then no place is lent. `NotLent`: `n` is 0, or more than are lent; none are if the place was taken
-    /// back. An `Err` changes nothing.
+    /// ([`Endpoint::take_lent`]). Then no place is lent. `NotLent`: `n` is 0, or more than are lent; none are if the place was
+    /// taken back. An `Err` changes nothing. (`NoMemory` stands in the contract alone: the place is there since it was lent.)
     pub fn came(&mut self, alloc: Global, number: u32, n: usize) -> Result<(), Refusal>
         ensures refused { IfSome (refusal_in self.old.state (λ e. stream_refusal e number)) (λ r. result ≡ Err r) }
         ensures more { IfSome self.old.state (λ held. IfNone (stream_refusal held.endpoint number)
             (lent_at held number < n → result ≡ Err Refusal.NotLent)) }
-        ensures why { IfNone (refusal_in self.old.state (λ e. stream_refusal e number))
-            (IfErr result (λ e. e ≡ Refusal.NotLent)) }
+        ensures why { IfSome self.old.state (λ held. IfNone (stream_refusal held.endpoint number)
+            (IfErr result (λ e. ((e ≡ Refusal.NotLent) × IsUnlent held number n) ⊎ (e ≡ Refusal.NoMemory)))) }
         ensures ok { OnOk result
             (IfSome self.old.state (λ held. IsSomeAnd self.new.state (λ after. HasTaken held number n after))) }
         ensures err { OnErr result (self.new.state ≡ self.old.state) }

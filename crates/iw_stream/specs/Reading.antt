@@ -1,5 +1,5 @@
 -- Octets that are read from the connection in place.
-use Rattle.std.specs.Prelude.{ℕ, ◌≡◌, ◌+◌, ◌-◌, ◌%◌, ◌^◌, ◌<◌, ◌≤◌, min, true, false, List, [], length, Option, slice_index}
+use Rattle.std.specs.Prelude.{ℕ, ◌≡◌, ◌+◌, ◌-◌, ◌%◌, ◌^◌, ◌<◌, ◌≤◌, min, true, false, if◌then◌else◌, List, [], length, Option, slice_index}
 use Rattle.std.specs.Io.KnownBytes.{Consumes, IsAtEnd, Keeps}
 use Rattle.iw_ranges.specs.declared.Delivery.TheVariants.{Kept}
 use Rattle.iw_ranges.specs.Arrived.{Arrived, delivery, delivered, end_of, window}
@@ -7,6 +7,8 @@ use Rattle.iw_stream.specs.declared.intake.Intake.{Intake}
 use Rattle.iw_stream.specs.declared.intake.Intake.TheVariants.{Came, End, Full}
 use Rattle.iw_stream.specs.declared.intake.LendRefusal.{LendRefusal}
 use Rattle.iw_stream.specs.declared.intake.LendRefusal.TheVariants as refusals
+use Rattle.iw_stream.specs.declared.intake.TakeLentRefusal.{TakeLentRefusal}
+use Rattle.iw_stream.specs.declared.intake.TakeLentRefusal.TheVariants as takes
 use Rattle.iw_stream.specs.declared.intake.TheConstants.{MOST_READ}
 use Rattle.iw_stream.specs.Stream.{StreamState, ended, delivery_of, after_deliver}
 
@@ -79,6 +81,24 @@ abbrev pub IsNotLent : StreamState → LendRefusal → Type 0
 IsNotLent s refusals.Full = (ended s ≡ false) × (room_ahead s.arrived ≡ 0)
 IsNotLent s refusals.Ended = ended s ≡ true
 IsNotLent s refusals.NoMemory = ended s ≡ false
+
+-- how many octets can be taken that were read to a lent place
+abbrev pub most_ahead : Arrived → ℕ
+most_ahead a = min MOST_READ (room_ahead a)
+
+-- the same of a stream: one that has ended drops them, as many as one read has at most
+abbrev pub most_taken : StreamState → ℕ
+most_taken s = if ended s then MOST_READ else most_ahead s.arrived
+
+-- why n octets are not taken, if so many can be at most: the first reason that holds
+abbrev pub IsNotTakenOf : ℕ → ℕ → TakeLentRefusal → Type 0
+IsNotTakenOf most n takes.Nothing = n ≡ 0
+IsNotTakenOf most n takes.TooMany = most < n
+IsNotTakenOf most n takes.NoMemory = (0 < n) × (n ≤ most)
+
+-- a stream that has ended lacks no memory
+abbrev pub IsNotTaken : StreamState → ℕ → TakeLentRefusal → Type 0
+IsNotTaken s n refusal = IsNotTakenOf (most_taken s) n refusal × (refusal ≡ takes.NoMemory → ended s ≡ false)
 
 -- the n octets that stood in the lent place came; none is dropped if the stream runs
 pub record Counts (old new : StreamState) (n : ℕ) : Type 0 where

@@ -27,3 +27,17 @@ pub enum LendRefusal {
     #[error("no memory: the call may be made again")]
     NoMemory,
 }
+
+/// Why octets that were read to a lent place do not count as come: the first reason that holds.
+#[derive(Clone, Copy, Debug, PartialEq, Eq, Error)]
+pub enum TakeLentRefusal {
+    /// They are none.
+    #[error("there are no octets")]
+    Nothing,
+    /// They are more than a place is lent for.
+    #[error("no place is lent for so many octets")]
+    TooMany,
+    /// No place was lent for so many since the last call on the stream, and there is no memory for one.
+    #[error("no place was lent for so many octets, and there is no memory for one")]
+    NoMemory,
+}

@@ -7,7 +7,7 @@
 //! 1. posts receive buffers (`post_recv`) and, once the stream is open, messages and Reads (`post`);
 //! 2. sends what `emit` appends, until it answers [`Emission::Nothing`];
 //! 3. reads octets from the connection right to where they are to stand (`read_from`, or `read_some` for less; with a call of
-//!    its own, as C does, `lend_place` and `came`), or hands in octets that came, with their sequence number (`deliver`;
+//!    its own, as C does, `lend_place` and `take_lent`), or hands in octets that came, with their sequence number (`deliver`;
 //!    `first_number` sets that of the peer's first octet), in any order;
 //! 4. calls `work` until it answers [`Step::Idle`]: each call does one step and says what it did. If it answers
 //!    [`Step::Asked`], the owner accepts or rejects the peer's Request.
@@ -85,7 +85,7 @@ pub use answer::{
     PostRefusal, RecvRefusal, Role, SizeRefusal, Standing, Step,
 };
 pub use ending::Ending;
-pub use intake::{Intake, LendRefusal, MOST_READ};
+pub use intake::{Intake, LendRefusal, MOST_READ, TakeLentRefusal};
 pub use iw_queues::{Kind, Request};
 pub use iw_ranges::Delivery;
 pub use iw_reads::{Asked, Outstanding, ResponsePart};

@@ -1,9 +1,9 @@
 //! The place past the last octet that came, lent to an owner that reads by a call of its own.
-ghost use Rattle.std.specs.Prelude.{◌≡◌, ◌<◌, ◌≤◌, min, length, None, MatchBool, IfOk, IfErr, OnErr};
-ghost use Rattle.iw_stream.specs.Reading.{Brings, Reads, LacksRoom, room_ahead};
+ghost use Rattle.std.specs.Prelude.{◌≡◌, ◌<◌, ◌≤◌, min, length, None, MatchBool, IfOk, IfErr, OnOk, OnErr};
+ghost use Rattle.iw_stream.specs.Reading.{Brings, Reads, LacksRoom, IsNotTakenOf, most_ahead, room_ahead};
 
 use super::Incoming;
-use crate::intake::{Intake, LendRefusal, MOST_READ};
+use crate::intake::{Intake, LendRefusal, MOST_READ, TakeLentRefusal};
 use iw_ranges::Islands;
 use std::alloc::Allocator;
 use std::ptr::{NonNull, null_mut};
@@ -85,5 +85,29 @@ impl<A: Allocator> Incoming<A> {
         let to = (place + n as u64).saturating_sub(self.locator.base);
         self.unsearched.delivered(from, to);
         true
+    }
+
+    /// The same, and makes room for so many octets where none was lent. An `Err` tells why not, and counts none.
+    pub(crate) fn take_lent(&mut self, n: usize) -> Result<(), TakeLentRefusal>
+        ensures ok { OnOk result (Reads self.old.arrived self.new.arrived None None (Intake.Came n)) }
+        ensures refused { IfErr result (λ refusal. IsNotTakenOf (most_ahead self.old.arrived) n refusal) }
+        ensures err { OnErr result (self.new.arrived ≡ self.old.arrived) }
+        ensures early { self.new.early ≡ self.old.early }
+        ensures same { IsSameStart self.old self.new }
+    {
+        if n == 0 {
+            return Err(TakeLentRefusal::Nothing);
+        }
+        if n > self.room().min(MOST_READ) {
+            return Err(TakeLentRefusal::TooMany);
+        }
+        let Ok(true) = self.islands.make_room(n) else {
+            return Err(TakeLentRefusal::NoMemory);
+        };
+        if self.came(n) {
+            Ok(())
+        } else {
+            Err(TakeLentRefusal::NoMemory)
+        }
     }
 }

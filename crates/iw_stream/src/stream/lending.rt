@@ -2,12 +2,12 @@
 ghost use Rattle.std.specs.Prelude.{◌≡◌, true, false, MatchBool, IfOk, IfErr, OnOk, OnErr};
 
 use super::Stream;
-use crate::intake::{LendRefusal, MOST_READ};
+use crate::intake::{LendRefusal, MOST_READ, TakeLentRefusal};
 use std::alloc::Allocator;
 
 impl<A: Allocator> Stream<A> {
     ghost use Rattle.iw_stream.specs.Stream.{ended};
-    ghost use Rattle.iw_stream.specs.Reading.{Counts, IsNotLent, lendable};
+    ghost use Rattle.iw_stream.specs.Reading.{Counts, IsNotLent, IsNotTaken, lendable};
 
     /// Lends the place past the last octet that came, for an owner that reads by a call of its own, as C does: tells the
     /// address at which octets from the connection may be written, and how many, as many as are wanted, 65,536 at most, and
@@ -42,29 +42,65 @@ impl<A: Allocator> Stream<A> {
     }
 
     /// Takes the first `n` octets that stand in the lent place as one delivery ([`Stream::deliver`]), past the last octet
-    /// that came, and tells whether it did. None of it is dropped, unless the stream has ended: such a stream drops all.
+    /// that came. None of it is dropped, unless the stream has ended: such a stream drops all, 1 to 65,536 octets, wherever
+    /// they are.
     ///
-    /// It takes none, and nothing changes, if `n` is 0 or more than [`Stream::lend_place`] lends, or if there is no memory for
-    /// so many since no place was lent. A stream that has ended takes 1 to 65,536 octets, wherever they are.
+    /// So it takes what [`Stream::lend_place`] lent, if nothing else was called on the stream since. It counts what stands
+    /// there, written or not. Refused are no octets (`Nothing`); more than can be lent (`TooMany`); and, if fewer or none were
+    /// lent, those for which there is no memory (`NoMemory`). An `Err` changes nothing.
+    pub fn take_lent(&mut self, n: usize) -> Result<(), TakeLentRefusal>
+        ensures ok { OnOk result (Counts self.old self.new n) }
+        ensures refused { IfErr result (λ refusal. IsNotTaken self.old n refusal) }
+        ensures err { OnErr result (self.new ≡ self.old) }
+    {
+        if self.ending.has_ended() {
+            return self.take_ended(n);
+        }
+        self.take_running(n)
+    }
+
+    // The same of a stream that has ended.
+    fn take_ended(&mut self, n: usize) -> Result<(), TakeLentRefusal>
+        requires { ended self.old ≡ true }
+        ensures ok { OnOk result (Counts self.old self.new n) }
+        ensures refused { IfErr result (λ refusal. IsNotTaken self.old n refusal) }
+        ensures err { OnErr result (self.new ≡ self.old) }
+    {
+        if n == 0 {
+            return Err(TakeLentRefusal::Nothing);
+        }
+        if n > MOST_READ {
+            return Err(TakeLentRefusal::TooMany);
+        }
+        self.answered = true;
+        Ok(())
+    }
+
+    // The same of a stream that runs.
+    fn take_running(&mut self, n: usize) -> Result<(), TakeLentRefusal>
+        requires { ended self.old ≡ false }
+        ensures ok { OnOk result (Counts self.old self.new n) }
+        ensures refused { IfErr result (λ refusal. IsNotTaken self.old n refusal) }
+        ensures err { OnErr result (self.new ≡ self.old) }
+    {
+        match self.arrived.take_lent(n) {
+            Ok(()) => {
+                self.answered = true;
+                Ok(())
+            }
+            Err(refusal) => Err(refusal),
+        }
+    }
+
+    /// The same as [`take_lent`](Stream::take_lent), but tells alone whether it took them, and asks for no memory: it takes none
+    /// where no place for so many was lent.
     pub fn came(&mut self, n: usize) -> bool
         ensures { MatchBool result (Counts self.old self.new n) (self.new ≡ self.old) }
     {
         if self.ending.has_ended() {
-            return self.came_ended(n);
+            return self.take_ended(n).is_ok();
         }
         self.came_running(n)
-    }
-
-    // The same of a stream that has ended.
-    fn came_ended(&mut self, n: usize) -> bool
-        requires { ended self.old ≡ true }
-        ensures { MatchBool result (Counts self.old self.new n) (self.new ≡ self.old) }
-    {
-        if n == 0 || n > MOST_READ {
-            return false;
-        }
-        self.answered = true;
-        true
     }
 
     // The same of a stream that runs.

@@ -5,10 +5,10 @@ use Rattle.iw_stream.specs.Fields.{state_of}
 use Rattle.iw_stream.specs.Reading.{Counts}
 use Rattle.iw_stream.specs.Stream.{StreamState}
 use Rattle.iw_stream.proofs.TakenIn.{counts_ended}
-use Rattle.iw_stream.proofs.stream.Stream.came_ended.Goals as goal
+use Rattle.iw_stream.proofs.stream.Stream.take_ended.Goals as goal
 
-pub returns : goal.returns
-returns g c =
+pub returns-clause-ok : goal.returns-clause-ok
+returns-clause-ok g c =
     let s = state_of c.self.inside in
     let n = c.args.n in
     let some : 0 < n = omega (arith, c.if-n-eq0.false) in
