@@ -1,22 +1,25 @@
 -- A call at a stream, where a region has other octets: what it answers and leaves.
-use Rattle.std.proofs.Common.{◌≡◌, ℕ, List, length, set, Option, Some, None, Ok, refl, sym, ap, subst}
-use Rattle.std.specs.Prelude.{unwrap_or}
+use Rattle.std.proofs.Common.{◌≡◌, ℕ, Bool, true, false, List, length, set, Option, Some, None, Ok, refl, sym, ap, subst}
+use Rattle.std.specs.Prelude.{nat_lt, if◌then◌else◌, unwrap_or}
 use Rattle.std.specs.Option.{option_map, option_or}
 use Rattle.iw_octets.specs.declared.stag.Stag.{Stag}
 use Rattle.iw_memory.specs.declared.peer.Peer.{Peer}
 use Rattle.iw_memory.specs.Region.{Region, bound_region}
-use Rattle.iw_memory.specs.Table.{Table, region_at, registered, retired}
+use Rattle.iw_memory.specs.Table.{Table, region_at, registered, registered_drawn, retired}
 use Rattle.iw_memory.specs.TableLending.{overwritten}
 use Rattle.iw_untagged.specs.Receiving.{exchanged}
+use Rattle.iw_stream.specs.Pooling.{bound_buffers}
 use Rattle.iw_stream.specs.Stream as stream
 use Rattle.iw_stream.specs.Stream.{StreamState, peer_of, sees, emission_of, emitted}
 use Rattle.iw_stream.specs.Work.{work_step, table_worked}
 use Rattle.iw_endpoint.specs.declared.refusal.CallRefusal.TheVariants.{Refused}
 use Rattle.iw_endpoint.specs.declared.refusal.LimitRefusal.TheVariants as limits
 use Rattle.iw_endpoint.specs.Endpoint.{EndpointState, Pool, pool_of, lent_to, left_of, pool_left, with_worked, with_stream, with_table, accepted, rejected, with_request, with_buffer, with_first, with_mulpdu, after_deliver, broken, stream_of, stream_at, unopened, answer_at, refusal_at, rest_refusal, running_refusal, limit_refusal, limited, rewritten, answer_refusal, post_refusal, recv_refusal, first_refusal, size_refusal}
-use Rattle.iw_endpoint.specs.Isolation.{StreamCall, Accept, Reject, Post, PostRecv, FirstNumber, Deliver, Work, Emit, BreakLink, Close, RegisterFor, SetMulpdu, Private, Told, PeerOptions, Standing, HasDue, PeerFirst, Sent, DueLen, InOrderPoint, Limits, Worked, Emitted, Bound, Counted, stream_answer, after_stream, answer_or, unless, if_there}
-use Rattle.iw_endpoint.proofs.Rewritten.{over_denies, over_register, over_stag, registered_passes, retired_passes}
-use Rattle.iw_endpoint.proofs.Steps.{closes}
+use Rattle.iw_endpoint.specs.Drawing.{limited_drawn}
+use Rattle.iw_endpoint.specs.Sharing.{emptied, with_worked_alone}
+use Rattle.iw_endpoint.specs.Isolation.{StreamCall, StreamAnswer, Accept, Reject, Post, PostRecv, FirstNumber, Deliver, Work, WorkWithin, Emit, BreakLink, Close, RegisterFor, RegisterDrawnFor, SetMulpdu, Private, Told, PeerOptions, Standing, HasDue, PeerFirst, Sent, DueLen, InOrderPoint, BoundBuffers, Limits, Worked, Emitted, Bound, Counted, stream_answer, after_stream, answer_or, unless, if_there}
+use Rattle.iw_endpoint.proofs.Rewritten.{over_denies, over_register, over_stag, over_drawn, registered_passes, drawn_passes, retired_passes}
+use Rattle.iw_endpoint.proofs.Steps.{closes, worked_within}
 use Rattle.iw_endpoint.proofs.Tables.{DeniesAlike, same_step, same_worked, same_emission, same_due_len, same_after_emit}
 
 module _ (e : EndpointState) (n : ℕ) (stag : Stag) (r : Region) (found : region_at e.table stag ≡ Some r) (octets : List ℕ) where
@@ -52,6 +55,18 @@ module _ (e : EndpointState) (n : ℕ) (stag : Stag) (r : Region) (found : regio
       go : (o : Option StreamState) → Worked (answer_at o (λ s. work_step t (lent_to (pool_of e s.domain) s))) ≡ Worked (answer_at o (λ s. work_step e.table (lent_to (pool_of e s.domain) s)))
       go None = refl
       go (Some s) = ap (λ x. Worked (Ok x)) (step_alike s (pool_of e s.domain))
+  told_alike T emits (WorkWithin share) told = go (stream_of e n)
+    where
+      by_share : Table → Option StreamState → StreamAnswer
+      by_share u o =
+          Worked (if nat_lt (bound_buffers (unwrap_or o unopened)) share then answer_at o (λ s. work_step u (lent_to (pool_of e s.domain) s)) else answer_at o (λ s. work_step u (lent_to (emptied (pool_of e s.domain)) s)))
+
+      go : (o : Option StreamState) → by_share t o ≡ by_share e.table o
+      go None = refl
+      go (Some s) =
+          let fewer = step_alike s (pool_of e s.domain) in
+          let full = step_alike s (emptied (pool_of e s.domain)) in
+          λ i. Worked (if nat_lt (bound_buffers s) share then Ok (fewer i) else Ok (full i))
   told_alike T emits Emit told =
       λ i. Emitted (at_alike (stream_of e n) (emission_of t) (emission_of e.table) (λ s is. same_emission s t e.table (denied (peer_of s))) i) (at_alike (stream_of e n) (emitted t) (emitted e.table) (emits told) i)
   told_alike T emits BreakLink told = refl
@@ -59,6 +74,9 @@ module _ (e : EndpointState) (n : ℕ) (stag : Stag) (r : Region) (found : regio
   told_alike T emits (RegisterFor base theirs rights) told =
       let d = (stream_at e n).domain in
       (λ i. Bound (answer_or (option_or (running_refusal e n) (option_map (λ refusal. Refused (limits.Refused refusal)) (over_register e.table stag r found octets d base (length theirs) i))) (over_stag e.table stag r found octets d i)))
+  told_alike T emits (RegisterDrawnFor base theirs rights drawn) told =
+      let d = (stream_at e n).domain in
+      (λ i. Bound (answer_or (option_or (running_refusal e n) (option_map (λ refusal. Refused (limits.Refused refusal)) (over_register e.table stag r found octets d base (length theirs) i))) (over_drawn e.table stag r found octets d drawn i)))
   told_alike T emits (SetMulpdu size) told = refl
   told_alike T emits Private told = refl
   told_alike T emits Told told = refl
@@ -69,6 +87,7 @@ module _ (e : EndpointState) (n : ℕ) (stag : Stag) (r : Region) (found : regio
   told_alike T emits Sent told = refl
   told_alike T emits DueLen told = ap Counted (at_alike (stream_of e n) (λ s. length (emitted t s)) (λ s. length (emitted e.table s)) (λ s is. same_due_len s t e.table (denied (peer_of s))))
   told_alike T emits InOrderPoint told = refl
+  told_alike T emits BoundBuffers told = refl
   told_alike T emits Limits told = refl
 
   -- ---- what it leaves
@@ -93,9 +112,26 @@ module _ (e : EndpointState) (n : ℕ) (stag : Stag) (r : Region) (found : regio
             closed = e.closed;
           })
 
+  -- the same of a step as if the pool were empty
+  pub alone_over : (s : StreamState) (later : List ℕ) → table_worked t (lent_to (emptied (pool_of e s.domain)) s) ≡ overwritten (table_worked e.table (lent_to (emptied (pool_of e s.domain)) s)) stag later → with_worked_alone f n s ≡ rewritten (with_worked_alone e n s) stag later
+  alone_over s later = go (emptied (pool_of e s.domain))
+    where
+      made : Table → Table → Option Pool → EndpointState
+      made table new o = record { table = new; pools = e.pools; streams = set e.streams n (Some (left_of table o s)); closed = e.closed }
+
+      go : (o : Option Pool) → table_worked t (lent_to o s) ≡ overwritten (table_worked e.table (lent_to o s)) stag later → made t (table_worked t (lent_to o s)) o ≡ made e.table (overwritten (table_worked e.table (lent_to o s)) stag later) o
+      go None tables =
+          let left = same_worked s t e.table (denied (peer_of s)) in
+          (λ i. record { table = tables i; pools = e.pools; streams = set e.streams n (Some (left i)); closed = e.closed })
+      go (Some pool) tables =
+          let left = same_worked (sees s pool) t e.table (denied (peer_of s)) in
+          (λ i. record { table = tables i; pools = e.pools; streams = set e.streams n (Some (sees (left i) (exchanged s.receiving.source pool))); closed = e.closed })
+
   -- endpoints that differ in the region's octets alone are related so, if what the table has of this is kept
   module _ (P : Table → Type 0) (Q : EndpointState → EndpointState → Type 0) (all : P e.table) (retires : (s : StreamState) → stream_of e n ≡ Some s → P (retired e.table (peer_of s))) (registers : (pd : ℕ) (region : Region) → P (registered e.table pd region))
-      (related : (new : EndpointState) → P new.table → Q (rewritten new stag octets) new) (works : (s : StreamState) → stream_of e n ≡ Some s → Q (with_worked f n s) (with_worked e n s)) where
+      (draws : (pd drawn : ℕ) (region : Region) → P (registered_drawn e.table pd drawn region))
+      (related : (new : EndpointState) → P new.table → Q (rewritten new stag octets) new) (works : (s : StreamState) → stream_of e n ≡ Some s → Q (with_worked f n s) (with_worked e n s))
+      (works_alone : (s : StreamState) → stream_of e n ≡ Some s → Q (with_worked_alone f n s) (with_worked_alone e n s)) where
     left_unless : {R : Type 0} (q : Option R) (new : EndpointState) → P new.table → Q (unless q f (rewritten new stag octets)) (unless q e new)
     left_unless None new p = related new p
     left_unless (Some x) new p = related e all
@@ -116,6 +152,15 @@ module _ (e : EndpointState) (n : ℕ) (stag : Stag) (r : Region) (found : regio
         go : (o : Option StreamState) → stream_of e n ≡ o → Q (if_there o f (with_worked f n (unwrap_or o unopened))) (if_there o e (with_worked e n (unwrap_or o unopened)))
         go None is = related e all
         go (Some s) is = works s is
+    left_alike (WorkWithin share) = go (stream_of e n) refl
+      where
+        by_share : (s : StreamState) → stream_of e n ≡ Some s → (fewer : Bool) → Q (if fewer then with_worked f n s else with_worked_alone f n s) (if fewer then with_worked e n s else with_worked_alone e n s)
+        by_share s is true = works s is
+        by_share s is false = works_alone s is
+
+        go : (o : Option StreamState) → stream_of e n ≡ o → Q (if_there o f (worked_within f n share (unwrap_or o unopened))) (if_there o e (worked_within e n share (unwrap_or o unopened)))
+        go None is = related e all
+        go (Some s) is = by_share s is (nat_lt (bound_buffers s) share)
     left_alike Emit =
         let s = stream_at e n in
         let new = with_stream e n (stream.after_emit e.table s) in
@@ -136,6 +181,14 @@ module _ (e : EndpointState) (n : ℕ) (stag : Stag) (r : Region) (found : regio
         let same : unless (limit_refusal f n base (length theirs)) f (limited f n base theirs rights) ≡ unless q f (rewritten new stag octets) =
         λ i. unless (option_or (running_refusal e n) (option_map (λ refusal. Refused (limits.Refused refusal)) (over_register e.table stag r found octets d base (length theirs) i))) f (with_table e (registered_passes e.table stag r found octets d region i)) in
         subst (λ x. Q x (unless q e new)) (sym same) (left_unless q new (registers d region))
+    left_alike (RegisterDrawnFor base theirs rights drawn) =
+        let d = (stream_at e n).domain in
+        let region = bound_region n base theirs rights in
+        let new = limited_drawn e n base theirs rights drawn in
+        let q = limit_refusal e n base (length theirs) in
+        let same : unless (limit_refusal f n base (length theirs)) f (limited_drawn f n base theirs rights drawn) ≡ unless q f (rewritten new stag octets) =
+        λ i. unless (option_or (running_refusal e n) (option_map (λ refusal. Refused (limits.Refused refusal)) (over_register e.table stag r found octets d base (length theirs) i))) f (with_table e (drawn_passes e.table stag r found octets d drawn region i)) in
+        subst (λ x. Q x (unless q e new)) (sym same) (left_unless q new (draws d drawn region))
     left_alike (SetMulpdu size) = left_unless (size_refusal e n size) (with_mulpdu e n size) all
     left_alike Private = related e all
     left_alike Told = related e all
@@ -146,4 +199,5 @@ module _ (e : EndpointState) (n : ℕ) (stag : Stag) (r : Region) (found : regio
     left_alike Sent = related e all
     left_alike DueLen = related e all
     left_alike InOrderPoint = related e all
+    left_alike BoundBuffers = related e all
     left_alike Limits = related e all

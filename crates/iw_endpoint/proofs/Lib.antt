@@ -8,6 +8,7 @@ pub mod Steps
 pub mod Alone
 pub mod TakenIn
 pub mod Used
+pub mod Drawn
 pub mod Rewritten
 pub mod Calls
 pub mod Limited

@@ -1,6 +1,6 @@
 -- A call on one stream passes by the regions that are limited to another.
 use Rattle.std.proofs.Common.{◌≡◌, ◌==◌, ℕ, Bool, true, false, cond, not, List, [], ◌∷◌, length, set, get_or, Option, Some, None, refl, sym, ap, subst, ◌∙◌, inl, inr}
-use Rattle.std.specs.Prelude.{IsSomeAnd, IfSome, unwrap_or, replicate, if◌then◌else◌}
+use Rattle.std.specs.Prelude.{IsSomeAnd, IfSome, nat_lt, unwrap_or, replicate, if◌then◌else◌}
 use Rattle.std.specs.Option.{option_map, option_map_or}
 use Rattle.std.proofs.lemmas.Bool.{cases_lt, ne_eqb}
 use Rattle.std.proofs.lemmas.Bool.Decides.{eqb_tells}
@@ -23,18 +23,22 @@ use Rattle.iw_memory.proofs.TableLemmas.{put-nothing}
 use Rattle.iw_memory.proofs.ScopeLemmas.{out-kept, retires}
 use Rattle.iw_ranges.specs.declared.Delivery.{Delivery}
 use Rattle.iw_ranges.specs.declared.Delivery.TheVariants.{Kept, Dropped}
+use Rattle.iw_stream.specs.Pooling.{bound_buffers}
 use Rattle.iw_stream.specs.Stream as stream
 use Rattle.iw_stream.specs.Stream.{StreamState, peer_of, sees, emission_of, emitted, delivery_of}
 use Rattle.iw_stream.specs.Work.{table_worked}
 use Rattle.iw_endpoint.specs.declared.refusal.CallRefusal.TheVariants.{Refused}
 use Rattle.iw_endpoint.specs.Numbers.{put_at}
 use Rattle.iw_endpoint.specs.Endpoint.{EndpointState, Pool, fresh, no_streams, new_stream, new_shared, pool_of, lent_to, left_of, with_worked, with_stream, stream_of, stream_at, unopened, refusal_at, rest_refusal, limit_refusal, limited, domain_refusal, added, registered as registered_at, store_refusal, stored, rewritten, open_refusal, opened, share_refusal, shared, pool_refusal, pooled, take_refusal, after_take, open_shared_refusal, opened_shared, next_refusal, opened_next, next_shared_refusal, opened_shared_next}
-use Rattle.iw_endpoint.specs.Isolation.{StreamCall, Accept, Reject, Post, PostRecv, FirstNumber, Deliver, Work, Emit, BreakLink, Close, RegisterFor, SetMulpdu, Private, Told, PeerOptions, Standing, HasDue, PeerFirst, Sent, DueLen, InOrderPoint, Limits, Call, AddDomain, Register, Deregister, Invalidate, Store, Facts, Local, LocalMut, Open, Share, PostShared, TakeShared, OpenShared, OpenNext, OpenSharedNext, AtStream, stream_answer, after_stream, after, after_all, unless, if_there}
+use Rattle.iw_endpoint.specs.Drawing.{registered_drawn, limited_drawn}
+use Rattle.iw_endpoint.specs.Sharing.{emptied, with_worked_alone}
+use Rattle.iw_endpoint.specs.Isolation.{StreamCall, Accept, Reject, Post, PostRecv, FirstNumber, Deliver, Work, WorkWithin, Emit, BreakLink, Close, RegisterFor, RegisterDrawnFor, SetMulpdu, Private, Told, PeerOptions, Standing, HasDue, PeerFirst, Sent, DueLen, InOrderPoint, BoundBuffers, Limits, Call, AddDomain, Register, RegisterDrawn, Deregister, Invalidate, Store, Facts, Local, LocalMut, Open, Share, PostShared, TakeShared, OpenShared, OpenNext, OpenSharedNext, AtStream, stream_answer, after_stream, after, after_all, unless, if_there}
 use Rattle.iw_endpoint.specs.Limited.{KnowNumbers, IsAnothers, LimitedRegionsAreApart, StreamsKnowTheirNumbers}
 use Rattle.iw_endpoint.proofs.Filled.{IsPut, nothing_in, put_is, set_is}
+use Rattle.iw_endpoint.proofs.Drawn.{drawn_keeps}
 use Rattle.iw_endpoint.proofs.Rewritten.{with_octets, found_invalidate, registered_keeps, put_passes, invalidated_passes}
-use Rattle.iw_endpoint.proofs.Calls.{told_alike, left_alike, worked_over}
-use Rattle.iw_endpoint.proofs.Steps.{closes, delivered}
+use Rattle.iw_endpoint.proofs.Calls.{told_alike, left_alike, worked_over, alone_over}
+use Rattle.iw_endpoint.proofs.Steps.{closes, delivered, worked_within}
 use Rattle.iw_endpoint.proofs.Tables.{none_taken, denies, keeps-worked, both-worked, same_emitted, worked_number, emit_number}
 
 -- ---- tables that differ out of the peer's scope
@@ -197,11 +201,16 @@ module _ (e : EndpointState) (n : ℕ) (stag : Stag) (know : KnowNumbers e) (ano
     both_left : (call : StreamCall) → K (after_stream e n call).table × (after_stream (rewritten e stag octets) n call ≡ rewritten (after_stream e n call) stag octets)
     both_left call =
         left_alike e n stag anothers.region anothers.found octets K (λ new old. K old.table × (new ≡ rewritten old stag octets)) refl
-        (λ s is. retired_keeps s (known_at e n s know is)) (λ pd region. registered_keeps e.table pd region stag anothers.region anothers.found) (λ new kept. (kept, refl))
+        (λ s is. retired_keeps s (known_at e n s know is)) (λ pd region. registered_keeps e.table pd region stag anothers.region anothers.found)
+        (λ pd drawn region. drawn_keeps e.table pd drawn region stag anothers.region anothers.found) (λ new kept. (kept, refl))
         (λ s is.
         let x = lent_to (pool_of e s.domain) s in
         let out = lent_out s is (pool_of e s.domain) in
-        (worked_keeps x out, worked_over e n stag anothers.region anothers.found octets s octets (table_over x out))) call
+        (worked_keeps x out, worked_over e n stag anothers.region anothers.found octets s octets (table_over x out)))
+        (λ s is.
+        let x = lent_to (emptied (pool_of e s.domain)) s in
+        let out = lent_out s is (emptied (pool_of e s.domain)) in
+        (worked_keeps x out, alone_over e n stag anothers.region anothers.found octets s octets (table_over x out))) call
 
     unseen : (call : StreamCall) → stream_answer (rewritten e stag octets) n call ≡ stream_answer e n call
     unseen call = told_alike e n stag anothers.region anothers.found octets (λ call. Unit {0}) (λ told s is. same_emitted s t e.table (answers (peer_of s) (out_at s is))) call tt
@@ -261,6 +270,13 @@ left_number : (u : Table) (o : Option Pool) (s : StreamState) → (left_of u o s
 left_number u None s = worked_number u s
 left_number u (Some pool) s = worked_number u (sees s pool)
 
+know_within : (e : EndpointState) (n share : ℕ) (s : StreamState) → KnowNumbers e → stream_of e n ≡ Some s → KnowNumbers (worked_within e n share s)
+know_within e n share s know is = go (nat_lt (bound_buffers s) share)
+  where
+    go : (fewer : Bool) → KnowNumbers (if fewer then with_worked e n s else with_worked_alone e n s)
+    go true = know_with e n s (left_of e.table (pool_of e s.domain) s) know is (left_number e.table (pool_of e s.domain) s)
+    go false = know_with e n s (left_of e.table (emptied (pool_of e s.domain)) s) know is (left_number e.table (emptied (pool_of e s.domain)) s)
+
 know_stream : (e : EndpointState) (n : ℕ) (call : StreamCall) → KnowNumbers e → KnowNumbers (after_stream e n call)
 know_stream e n (Accept private) know = know_refusing (λ s. stream.answer_refusal s private.items) (λ s. with_stream e n (stream.accepted s private)) e n know (λ s is. know_with e n s (stream.accepted s private) know is refl)
 know_stream e n (Reject private) know = know_refusing (λ s. stream.answer_refusal s private.items) (λ s. with_stream e n (stream.rejected s private)) e n know (λ s is. know_with e n s (stream.rejected s private) know is refl)
@@ -271,10 +287,12 @@ know_stream e n (Deliver from octets) know =
     know_changing (λ s. with_stream e n (delivered from octets s)) e n know (λ s is. know_with e n s (delivered from octets s) know is (delivered_number s from octets (delivery_of s from (length octets))))
 know_stream e n Work know =
     know_changing (λ s. with_worked e n s) e n know (λ s is. know_with e n s (left_of e.table (pool_of e s.domain) s) know is (left_number e.table (pool_of e s.domain) s))
+know_stream e n (WorkWithin share) know = know_changing (λ s. worked_within e n share s) e n know (λ s is. know_within e n share s know is)
 know_stream e n Emit know = know_changing (λ s. with_stream e n (stream.after_emit e.table s)) e n know (λ s is. know_with e n s (stream.after_emit e.table s) know is (emit_number e.table s))
 know_stream e n BreakLink know = know_changing (λ s. with_stream e n (stream.breaks s)) e n know (λ s is. know_with e n s (stream.breaks s) know is refl)
 know_stream e n Close know = know_refusing rest_refusal (closes e n) e n know (λ s is. know_set e.streams n None know tt)
 know_stream e n (RegisterFor base octets rights) know = know_unless (limit_refusal e n base (length octets)) e (limited e n base octets rights) know know
+know_stream e n (RegisterDrawnFor base octets rights drawn) know = know_unless (limit_refusal e n base (length octets)) e (limited_drawn e n base octets rights drawn) know know
 know_stream e n (SetMulpdu size) know = know_refusing (λ s. stream.size_refusal size) (λ s. with_stream e n (stream.with_mulpdu s size)) e n know (λ s is. know_with e n s (stream.with_mulpdu s size) know is refl)
 know_stream e n Private know = know
 know_stream e n Told know = know
@@ -285,11 +303,13 @@ know_stream e n PeerFirst know = know
 know_stream e n Sent know = know
 know_stream e n DueLen know = know
 know_stream e n InOrderPoint know = know
+know_stream e n BoundBuffers know = know
 know_stream e n Limits know = know
 
 pub know_step : (e : EndpointState) (call : Call) → KnowNumbers e → KnowNumbers (after e call)
 know_step e (AddDomain pd) know = know_unless (domain_refusal e pd) e (added e pd) know know
 know_step e (Register pd base octets rights) know = know_unless (register_refusal e.table pd base (length octets)) e (registered_at e pd base octets rights) know know
+know_step e (RegisterDrawn pd base octets rights drawn) know = know_unless (register_refusal e.table pd base (length octets)) e (registered_drawn e pd base octets rights drawn) know know
 know_step e (Deregister stag) know = know
 know_step e (Invalidate stag) know = know
 know_step e (Store stag to octets) know = know_unless (store_refusal e stag to (length octets)) e (stored e stag to octets) know know

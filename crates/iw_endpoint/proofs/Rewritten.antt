@@ -1,5 +1,5 @@
 -- A region gets other octets before a step, or after it: what the step reads is the same, and so is the table that it leaves.
-use Rattle.std.proofs.Common.{◌≡◌, ◌≢◌, ℕ, zero, suc, ◌+◌, ◌-◌, ◌%◌, ◌<◌, ◌==◌, Bool, true, false, cond, not, List, [], ◌∷◌, ◌++◌, length, get_or, set, Option, Some, None, refl, sym, ap, subst, ◌∙◌, arith, inl, inr, get_or-set_same, get_or-set_other}
+use Rattle.std.proofs.Common.{◌≡◌, ◌≢◌, ℕ, zero, suc, ◌+◌, ◌-◌, ◌/◌, ◌%◌, ◌<◌, ◌==◌, Bool, true, false, cond, not, List, [], ◌∷◌, ◌++◌, length, drop, get_or, set, Option, Some, None, refl, sym, ap, subst, ◌∙◌, arith, inl, inr, get_or-set_same, get_or-set_other}
 use Rattle.std.specs.Prelude.{◌^◌, ◌&&◌, is_some, is_none, nat_le, nat_lt, if◌then◌else◌}
 use Rattle.std.specs.Option.{option_map, option_map_or}
 use Rattle.std.proofs.lemmas.Bool.{cases_lt, eqb-true}
@@ -15,14 +15,15 @@ use Rattle.iw_memory.specs.declared.refusal.RegisterRefusal.TheVariants.{NoDomai
 use Rattle.iw_memory.specs.declared.refusal.StoreRefusal.{StoreRefusal}
 use Rattle.iw_memory.specs.declared.refusal.StoreRefusal.TheVariants.{NoRegion, Outside}
 use Rattle.iw_memory.specs.declared.region.Facts.{Facts}
-use Rattle.iw_memory.specs.Part.{Part, SlotState, unused, own_slots, under_key, own_region, own_slot, own_changed, free_slot, with_room, retired_slot, own_retired, own_registered, own_added, own_register_refusal, own_next_stag, region_invalidate_denial}
+use Rattle.iw_memory.specs.Part.{Part, SlotState, unused, own_slots, under_key, own_region, own_slot, own_changed, free_slot, free_from, with_room, retired_slot, own_retired, own_registered, own_registered_at, own_added, own_register_refusal, own_next_stag, own_drawn_stag, region_invalidate_denial}
 use Rattle.iw_memory.specs.Region.{Region, facts_of, is_in_scope, is_bound_to, made_invalid, retired_region, region_with, overlay}
-use Rattle.iw_memory.specs.Table.{Table, part_of, with_part, slots_of, with_slot, region_at, with_region, put, invalidated, deregistered, retired, registered, added, invalidate_denial_for, store_refusal, register_refusal, next_stag, is_added}
+use Rattle.iw_memory.specs.Table.{Table, part_of, with_part, slots_of, with_slot, region_at, with_region, put, invalidated, deregistered, retired, registered, registered_drawn, added, invalidate_denial_for, store_refusal, register_refusal, next_stag, drawn_stag, is_added}
 use Rattle.iw_memory.proofs.ListLemmas.{length-overlay, overlay-read}
 use Rattle.iw_memory.proofs.Callers.{own_region-region_at, part_of-with_part_same, part_of-with_part_other, denial-same_facts}
 use Rattle.iw_memory.proofs.TableLemmas.{with_region-found, with_region-none, deregistered-found, deregistered-none}
 use Rattle.iw_memory.proofs.LawLemmas.{stag_cases, with_region-changes, deregistered-changes, registered-changes}
 use Rattle.iw_memory.proofs.ScopeLemmas.{retires}
+use Rattle.iw_endpoint.proofs.Drawn.{free_behind, drawn_slot, drawn_keeps}
 use Rattle.iw_endpoint.proofs.Tables.{DeniesAlike}
 
 -- ---- steps of two domains, or two of one
@@ -172,6 +173,7 @@ registered_keeps table pd region stag r found = elim (cases_lt pd (length table)
 pub record HasSameRoom (p q : Part) : Type 0 where
   pub there : is_some p ≡ is_some q
   pub free : free_slot (own_slots p) ≡ free_slot (own_slots q)
+  pub behind : (place : ℕ) → free_slot (drop place (own_slots p)) ≡ free_slot (drop place (own_slots q))
   pub key : (k : ℕ) → (get_or (own_slots p) k unused).key ≡ (get_or (own_slots q) k unused).key
 
 key_set : (xs : List SlotState) (i k : ℕ) (y : SlotState) → y.key ≡ (get_or xs i unused).key → (get_or (set xs i y) k unused).key ≡ (get_or xs k unused).key
@@ -193,6 +195,7 @@ changed_room part stag change = go (own_region part stag) refl
         let here = under_key_is (get_or slots stag.slot unused) stag.key r is in record {
           there = refl;
           free = position_or_len-set (λ (s : SlotState). is_none s.region) slots stag.slot (record { key = stag.key; region = Some (change r) }) unused (sym (ap is_none here.0));
+          behind = λ place. free_behind slots place stag.slot (record { key = stag.key; region = Some (change r) }) (sym (ap is_none here.0));
           key = λ k. key_set slots stag.slot k (record { key = stag.key; region = Some (change r) }) (sym here.1);
         }
 
@@ -201,15 +204,15 @@ changed_room part stag change = go (own_region part stag) refl
     found (Some slots) r is = changed slots r is
 
     go : (o : Option Region) → own_region part stag ≡ o → HasSameRoom (option_map_or (λ r. Some (set (own_slots part) stag.slot (record { key = stag.key; region = Some (change r) }))) o part) part
-    go None is = record { there = refl; free = refl; key = λ k. refl }
+    go None is = record { there = refl; free = refl; behind = λ place. refl; key = λ k. refl }
     go (Some r) is = found part r is
 
 same_room : (table : Table) (stag : Stag) (change : Region → Region) (d : ℕ) → HasSameRoom (part_of (with_region table stag change) d) (part_of table d)
 same_room table stag change d = elim (eqb_tells d stag.domain) [
-  | inr off ↦ subst (λ p. HasSameRoom p (part_of table d)) (sym (part_of-with_part_other table stag.domain d (own_changed (part_of table stag.domain) stag change) off.1)) (record { there = refl; free = refl; key = λ k. refl })
+  | inr off ↦ subst (λ p. HasSameRoom p (part_of table d)) (sym (part_of-with_part_other table stag.domain d (own_changed (part_of table stag.domain) stag change) off.1)) (record { there = refl; free = refl; behind = λ place. refl; key = λ k. refl })
   | inl here ↦ subst (λ x. HasSameRoom (part_of (with_region table stag change) x) (part_of table x)) (sym here.1) (elim (cases_lt stag.domain (length table)) [
     | inl within ↦ subst (λ p. HasSameRoom p (part_of table stag.domain)) (sym (part_of-with_part_same table stag.domain (own_changed (part_of table stag.domain) stag change) within)) (changed_room (part_of table stag.domain) stag change)
-    | inr past ↦ subst (λ (u : Table). HasSameRoom (part_of u stag.domain) (part_of table stag.domain)) (sym (set_past table stag.domain (own_changed (part_of table stag.domain) stag change) past)) (record { there = refl; free = refl; key = λ k. refl })
+    | inr past ↦ subst (λ (u : Table). HasSameRoom (part_of u stag.domain) (part_of table stag.domain)) (sym (set_past table stag.domain (own_changed (part_of table stag.domain) stag change) past)) (record { there = refl; free = refl; behind = λ place. refl; key = λ k. refl })
   ])
 ]
 
@@ -220,6 +223,15 @@ room_refusal p q base len h =
 room_stag : (p q : Part) (pd : ℕ) → HasSameRoom p q → own_next_stag p pd ≡ own_next_stag q pd
 room_stag p q pd h =
     λ i. record { domain = pd; slot = h.free i; key = (ap (λ k. (get_or (own_slots p) k unused).key) h.free ∙ h.key (free_slot (own_slots q))) i }
+
+room_from : (p q : Part) (place : ℕ) → HasSameRoom p q → free_from (own_slots p) place ≡ free_from (own_slots q) place
+room_from p q place h = λ i. if nat_lt (place + h.behind place i) 1024 then place + h.behind place i else h.free i
+
+room_drawn : (p q : Part) (pd drawn : ℕ) → HasSameRoom p q → own_drawn_stag p pd drawn ≡ own_drawn_stag q pd drawn
+room_drawn p q pd drawn h =
+    let slot = room_from p q (drawn % 1024) h in
+    let key = ap (λ k. (get_or (own_slots p) k unused).key) slot ∙ h.key (free_from (own_slots q) (drawn % 1024)) in
+    λ i. record { domain = pd; slot = slot i; key = (key i + drawn / 1024 % 255) % 256 }
 
 -- ---- facts
 
@@ -310,6 +322,14 @@ module _ (table : Table) (stag : Stag) (r : Region) (found : region_at table sta
       by_slot (λ t. registered t pd region) r (registered_keeps table pd region stag r found ∙ found)
       (steps_pass table pd stag.domain (λ part. own_slot part stag.slot (slot_with r)) (λ part. own_registered part region)
       (λ same. registered_slot (part_of table pd) stag.slot r (slot_with r) region (ap (λ d. (get_or (slots_of table d) stag.slot unused).region) same ∙ here.0) refl))
+
+  pub drawn_passes : (pd drawn : ℕ) (region : Region) → registered_drawn (over table) pd drawn region ≡ over (registered_drawn table pd drawn region)
+  drawn_passes pd drawn region =
+      by_slot (λ t. registered_drawn t pd drawn region) r (drawn_keeps table pd drawn region stag r found ∙ found)
+      (steps_pass table pd stag.domain (λ part. own_slot part stag.slot (slot_with r)) (λ part. own_registered_at part (own_drawn_stag part pd drawn) region)
+      (λ same.
+      let held : (get_or (slots_of table pd) stag.slot unused).region ≡ Some r = ap (λ d. (get_or (slots_of table d) stag.slot unused).region) same ∙ here.0 in
+      drawn_slot (part_of table pd) pd drawn stag.slot (slot_with r) region (held_within (slots_of table pd) stag.slot r held) (ap is_none held) refl))
 
   pub added_passes : (pd : ℕ) → pd ≢ stag.domain → added (over table) pd ≡ over (added table pd)
   added_passes pd off =
@@ -407,6 +427,9 @@ module _ (table : Table) (stag : Stag) (r : Region) (found : region_at table sta
 
   pub over_stag : (pd : ℕ) → next_stag (over table) pd ≡ next_stag table pd
   over_stag pd = room_stag (part_of (over table) pd) (part_of table pd) pd (over_room pd)
+
+  pub over_drawn : (pd drawn : ℕ) → drawn_stag (over table) pd drawn ≡ drawn_stag table pd drawn
+  over_drawn pd drawn = room_drawn (part_of (over table) pd) (part_of table pd) pd drawn (over_room pd)
 
   pub over_register : (pd base len : ℕ) → register_refusal (over table) pd base len ≡ register_refusal table pd base len
   over_register pd base len = room_refusal (part_of (over table) pd) (part_of table pd) base len (over_room pd)

@@ -7,7 +7,7 @@ use Rattle.iw_octets.specs.declared.stag.Stag.{Stag}
 use Rattle.iw_memory.specs.declared.refusal.DomainRefusal.TheVariants.{BadDomain, DomainTaken}
 use Rattle.iw_memory.specs.Part.{own_region, own_added}
 use Rattle.iw_memory.specs.Region.{Region, new_region, made_invalid}
-use Rattle.iw_memory.specs.Table.{part_of, region_at, is_added, register_refusal, next_stag}
+use Rattle.iw_memory.specs.Table.{part_of, region_at, is_added, register_refusal, next_stag, drawn_stag}
 use Rattle.iw_memory.specs.TableLending.{overwritten}
 use Rattle.iw_memory.proofs.TableLemmas.{slots_are}
 use Rattle.iw_memory.proofs.LawLemmas.{put-changes, with_region-changes, deregistered-changes}
@@ -17,10 +17,12 @@ use Rattle.iw_stream.specs.declared.answer.Role.{Role}
 use Rattle.iw_stream.specs.Starting.{exceeds_request}
 use Rattle.iw_endpoint.specs.declared.refusal.OpenNextRefusal.TheVariants as next_refusals
 use Rattle.iw_endpoint.specs.Endpoint.{EndpointState, with_table, stream_numbers, is_taken, domain_refusal, added, registered, store_refusal, stored, rewritten, pool_of, share_fault, share_refusal, shared, pool_fault, pool_refusal, pooled, take_fault, take_refusal, taken_at, after_take, number_refusal, request_refusal, open_refusal, opened, open_shared_refusal_of, unshared, open_shared_refusal, opened_shared, next_refusal, opened_next, next_shared_refusal, opened_shared_next}
-use Rattle.iw_endpoint.specs.Isolation.{Call, Answer, AddDomain, Register, Deregister, Invalidate, Store, Facts, Local, LocalMut, Open, Share, PostShared, TakeShared, OpenShared, OpenNext, OpenSharedNext, AtStream, answer, after, after_all, answer_or, unless}
+use Rattle.iw_endpoint.specs.Drawing.{registered_drawn}
+use Rattle.iw_endpoint.specs.Isolation.{Call, Answer, AddDomain, Register, RegisterDrawn, Deregister, Invalidate, Store, Facts, Local, LocalMut, Open, Share, PostShared, TakeShared, OpenShared, OpenNext, OpenSharedNext, AtStream, answer, after, after_all, answer_or, unless}
 use Rattle.iw_endpoint.specs.Isolation.{Added, Registered, Octets, Invalidated, Found, Stored, Opened, Shared, Pooled, Taken, OpenedShared, OpenedNext, OfStream}
 use Rattle.iw_endpoint.specs.Limited.{KnowNumbers, PassesBy, Spares, answers, LimitedRegionsStayApart}
-use Rattle.iw_endpoint.proofs.Rewritten.{with_octets, over_added, over_facts, over_store, over_register, over_stag, registered_keeps, put_passes, rewritten_passes, invalidated_passes, deregistered_passes, registered_passes, added_passes}
+use Rattle.iw_endpoint.proofs.Drawn.{drawn_keeps}
+use Rattle.iw_endpoint.proofs.Rewritten.{with_octets, over_added, over_facts, over_store, over_register, over_stag, over_drawn, registered_keeps, put_passes, rewritten_passes, invalidated_passes, deregistered_passes, registered_passes, drawn_passes, added_passes}
 use Rattle.iw_endpoint.proofs.Limited.{limited_apart, know_step}
 
 module _ (e : EndpointState) (stag : Stag) (r : Region) (found : region_at e.table stag ≡ Some r) where
@@ -93,6 +95,12 @@ module _ (e : EndpointState) (stag : Stag) (r : Region) (found : region_at e.tab
       (λ octets. (λ i. Registered (answer_or (over_register e.table stag r found octets pd base (length new) i) (over_stag e.table stag r found octets pd i))))
       (λ none. registered_keeps e.table pd (new_region base new rights) stag r found)
       (λ octets none. ap (with_table e) (registered_passes e.table stag r found octets pd (new_region base new rights)))
+  passes n (RegisterDrawn pd base new rights drawn) know limited spares =
+      passes_unless (λ x. register_refusal x.table pd base (length new)) (λ x. Registered (answer_or (register_refusal x.table pd base (length new)) (drawn_stag x.table pd drawn))) (λ x. registered_drawn x pd base new rights drawn)
+      (λ octets. over_register e.table stag r found octets pd base (length new))
+      (λ octets. (λ i. Registered (answer_or (over_register e.table stag r found octets pd base (length new) i) (over_drawn e.table stag r found octets pd drawn i))))
+      (λ none. drawn_keeps e.table pd drawn (new_region base new rights) stag r found)
+      (λ octets none. ap (with_table e) (drawn_passes e.table stag r found octets pd drawn (new_region base new rights)))
   passes n (Deregister other) know limited ne = record {
     kept = (deregistered-changes e.table other).others stag (λ same. ne (sym same));
     unseen = λ octets. ap (λ o. Octets (option_map (λ q. q.octets) o)) (others_stay other ne octets);

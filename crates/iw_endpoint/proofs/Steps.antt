@@ -2,15 +2,16 @@
 use Rattle.std.proofs.Common.{◌≡◌, ℕ, ◌<◌, Bool, true, false, cond, set, arith, List, [], ◌∷◌, ◌++◌, length, drop, Option, Some, None, Ok, refl, sym, ap, subst, ◌∙◌, inr}
 use Rattle.std.proofs.lemmas.Option.{none-some}
 use Rattle.std.proofs.lemmas.Bool.Decides.{nat_tests}
-use Rattle.std.specs.Prelude.{IfSome, ◌||◌, is_none, unwrap_or, is_some, nat_le, not, if◌then◌else◌}
+use Rattle.std.specs.Prelude.{IfSome, ◌||◌, is_none, unwrap_or, is_some, nat_le, nat_lt, not, if◌then◌else◌}
 use Rattle.std.specs.Option.{option_map, option_or}
 use Rattle.std.proofs.lemmas.List.{length-set}
+use Rattle.iw_octets.specs.declared.stag.Stag.{Stag}
 use Rattle.iw_memory.specs.declared.refusal.NoRegion.{NoRegion}
 use Rattle.iw_memory.specs.declared.refusal.RegisterRefusal.{RegisterRefusal}
 use Rattle.iw_memory.specs.Part as regions
 use Rattle.iw_memory.specs.Region.{facts_of, new_region, bound_region, overlay}
 use Rattle.iw_memory.specs.Table as tables
-use Rattle.iw_memory.specs.Table.{Table, is_added, register_refusal, next_stag, retired}
+use Rattle.iw_memory.specs.Table.{Table, is_added, with_part, retired}
 use Rattle.iw_stream.specs.declared.answer.OpenRefusal.{OpenRefusal}
 use Rattle.iw_stream.specs.declared.answer.OpenRefusal.TheVariants.{NumberTaken, BadNumber, NoDomain}
 use Rattle.iw_ranges.specs.declared.Delivery.{Delivery}
@@ -18,6 +19,7 @@ use Rattle.iw_ranges.specs.declared.Delivery.TheVariants.{Kept, Dropped}
 use Rattle.iw_startup.specs.declared.config.Config.{Config}
 use Rattle.iw_stream.specs.declared.answer.Role.{Role}
 use Rattle.iw_stream.specs.Starting.{exceeds_request, private_in, told_in, options_in, agreement_in}
+use Rattle.iw_stream.specs.Pooling.{bound_buffers}
 use Rattle.iw_stream.specs.Stream as stream
 use Rattle.iw_untagged.specs.Receiving.{exchanged}
 use Rattle.iw_stream.specs.Stream.{StreamState, peer_of, ended, sees, standing_of, due, is_none_due, emission_of, emitted, delivery_of}
@@ -28,8 +30,9 @@ use Rattle.iw_endpoint.specs.declared.refusal.LimitRefusal.{LimitRefusal}
 use Rattle.iw_endpoint.specs.declared.refusal.LimitRefusal.TheVariants as limits
 use Rattle.iw_endpoint.specs.declared.refusal.OpenNextRefusal.TheVariants as next_refusals
 use Rattle.iw_endpoint.specs.Numbers.{put_at}
-use Rattle.iw_endpoint.specs.Endpoint.{EndpointState, Pool, new_stream, new_shared, HasNumbers, closed_at, is_taken, rest_refusal, with_next, next_refusal, next_shared_refusal, pool_of, with_pool, share_fault, share_refusal, pool_fault, pool_refusal, take_fault, take_refusal, taken, lent_to, left_of, pool_left, with_worked, stream_of, unopened, with_stream, with_table, answer_at, refusal_at, number_refusal, request_refusal, open_refusal, open_shared_refusal, open_shared_refusal_of, unshared, stream_numbers}
-use Rattle.iw_endpoint.specs.Isolation.{StreamCall, Accept, Reject, Post, PostRecv, Deliver, Work, Emit, BreakLink, Close, OpenNext, OpenSharedNext, SetMulpdu, Private, Told, PeerOptions, Standing, HasDue, Sent, DueLen, InOrderPoint, Limits, RegisterFor, AddDomain, Register, Deregister, Invalidate, Store, Facts, Local, LocalMut, Open, Share, PostShared, TakeShared, OpenShared, AtStream, FirstNumber, PeerFirst}
+use Rattle.iw_endpoint.specs.Endpoint.{EndpointState, Pool, new_stream, new_shared, HasNumbers, closed_at, is_taken, rest_refusal, with_next, next_refusal, next_shared_refusal, pool_of, with_pool, share_fault, share_refusal, pool_fault, pool_refusal, take_fault, take_refusal, taken, lent_to, left_of, pool_left, with_worked, stream_of, stream_at, unopened, with_stream, with_table, answer_at, refusal_at, limit_refusal, number_refusal, request_refusal, open_refusal, open_shared_refusal, open_shared_refusal_of, unshared, stream_numbers}
+use Rattle.iw_endpoint.specs.Sharing.{emptied, with_worked_alone}
+use Rattle.iw_endpoint.specs.Isolation.{StreamCall, Accept, Reject, Post, PostRecv, Deliver, Work, WorkWithin, Emit, BreakLink, Close, OpenNext, OpenSharedNext, SetMulpdu, Private, Told, PeerOptions, Standing, HasDue, Sent, DueLen, InOrderPoint, BoundBuffers, Limits, RegisterFor, RegisterDrawnFor, AddDomain, Register, RegisterDrawn, Deregister, Invalidate, Store, Facts, Local, LocalMut, Open, Share, PostShared, TakeShared, OpenShared, AtStream, FirstNumber, PeerFirst}
 use Rattle.iw_endpoint.specs.Isolation.{StreamAnswer, Bound, Accepted, Rejected, Posted, Buffered, Delivered, Worked, Emitted, Broke, Closed, Sized, Shown, Declared, Wanted, Stood, Due, Counted, Limited, Added, Registered, Octets, Invalidated, Found, Stored, Opened, Shared, Pooled, Taken, OpenedShared, OpenedNext, OfStream, Numbered}
 use Rattle.iw_endpoint.specs.Isolation.{HasDomains, IsOwn, IsOwnNumber, OwnStep, CallsConcernOneDomain, part_of, alone, stream_answer, after_stream, answer_or, unless}
 use Rattle.iw_endpoint.proofs.Tables.{AreAlike, KeepsOthers, step-alike, worked-alike, alike-own, table_worked-alike, keeps-step, keeps-others, emission-alike, emitted-alike, after_emit-alike, worked_domain, emit_domain}
@@ -46,13 +49,27 @@ at_own d e f s own h = subst (λ x. AreAlike x e.table f.table) (sym own) h.tabl
 seen_own : (d : ℕ) (e f : EndpointState) (s : StreamState) → IsOwn d (Some s) → AreSeenAlike d e f → AreSeenAlike s.domain e f
 seen_own d e f s own h = subst (λ x. AreSeenAlike x e f) (sym own) h
 
--- its step, with the pool of its domain
+-- its step, with this pool
+lent_seen : (e f : EndpointState) (s : StreamState) → AreSeenAlike s.domain e f → (o : Option Pool) → work_step e.table (lent_to o s) ≡ work_step f.table (lent_to o s)
+lent_seen e f s h None = step-alike s e.table f.table h.table
+lent_seen e f s h (Some pool) = step-alike (sees s pool) e.table f.table h.table
+
+-- with the pool of its domain
 step_seen : (e f : EndpointState) (s : StreamState) → AreSeenAlike s.domain e f → work_step e.table (lent_to (pool_of e s.domain) s) ≡ work_step f.table (lent_to (pool_of f s.domain) s)
-step_seen e f s h = go (pool_of e s.domain) ∙ ap (λ o. work_step f.table (lent_to o s)) h.pool
-  where
-    go : (o : Option Pool) → work_step e.table (lent_to o s) ≡ work_step f.table (lent_to o s)
-    go None = step-alike s e.table f.table h.table
-    go (Some pool) = step-alike (sees s pool) e.table f.table h.table
+step_seen e f s h = lent_seen e f s h (pool_of e s.domain) ∙ ap (λ o. work_step f.table (lent_to o s)) h.pool
+
+-- and as if that pool were empty
+alone_seen : (e f : EndpointState) (s : StreamState) → AreSeenAlike s.domain e f → work_step e.table (lent_to (emptied (pool_of e s.domain)) s) ≡ work_step f.table (lent_to (emptied (pool_of f s.domain)) s)
+alone_seen e f s h = lent_seen e f s h (emptied (pool_of e s.domain)) ∙ ap (λ o. work_step f.table (lent_to (emptied o) s)) h.pool
+
+-- what it leaves, of the regions and of the stream
+lent_tables : (e f : EndpointState) (s : StreamState) → AreSeenAlike s.domain e f → (o : Option Pool) → AreAlike s.domain (table_worked e.table (lent_to o s)) (table_worked f.table (lent_to o s))
+lent_tables e f s h None = table_worked-alike s e.table f.table h.table
+lent_tables e f s h (Some pool) = table_worked-alike (sees s pool) e.table f.table h.table
+
+lent_left : (e f : EndpointState) (s : StreamState) → AreSeenAlike s.domain e f → (o : Option Pool) → left_of e.table o s ≡ left_of f.table o s
+lent_left e f s h None = worked-alike s e.table f.table h.table
+lent_left e f s h (Some pool) = ap (λ t. sees t (exchanged s.receiving.source pool)) (worked-alike (sees s pool) e.table f.table h.table)
 
 worked_alike : (e f : EndpointState) (n : ℕ) (s : StreamState) → n < length e.streams → n < length f.streams → AreSeenAlike s.domain e f → AreSeenAlike s.domain (with_worked e n s) (with_worked f n s)
 worked_alike e f n s at_e at_f h = subst (λ o. AreSeenAlike s.domain (with_worked e n s) (made f o)) h.pool (go (pool_of e s.domain))
@@ -60,28 +77,58 @@ worked_alike e f n s at_e at_f h = subst (λ o. AreSeenAlike s.domain (with_work
     made : EndpointState → Option Pool → EndpointState
     made x o = with_table (with_pool (with_stream x n (left_of x.table o s)) s.domain (pool_left x.table o s)) (table_worked x.table (lent_to o s))
 
-    tables : (o : Option Pool) → AreAlike s.domain (table_worked e.table (lent_to o s)) (table_worked f.table (lent_to o s))
-    tables None = table_worked-alike s e.table f.table h.table
-    tables (Some pool) = table_worked-alike (sees s pool) e.table f.table h.table
-
-    left : (o : Option Pool) → left_of e.table o s ≡ left_of f.table o s
-    left None = worked-alike s e.table f.table h.table
-    left (Some pool) = ap (λ t. sees t (exchanged s.receiving.source pool)) (worked-alike (sees s pool) e.table f.table h.table)
-
     pools : (o : Option Pool) → pool_left e.table o s ≡ pool_left f.table o s
     pools None = refl
     pools (Some pool) = ap (λ t. Some (exchanged t.receiving.source (exchanged s.receiving.source pool))) (worked-alike (sees s pool) e.table f.table h.table)
 
     go : (o : Option Pool) → AreSeenAlike s.domain (made e o) (made f o)
     go o =
-        with_tables_alike s.domain (with_pool (with_stream e n (left_of e.table o s)) s.domain (pool_left e.table o s)) (with_pool (with_stream f n (left_of f.table o s)) s.domain (pool_left f.table o s)) (table_worked e.table (lent_to o s)) (table_worked f.table (lent_to o s)) (tables o)
+        with_tables_alike s.domain (with_pool (with_stream e n (left_of e.table o s)) s.domain (pool_left e.table o s)) (with_pool (with_stream f n (left_of f.table o s)) s.domain (pool_left f.table o s)) (table_worked e.table (lent_to o s)) (table_worked f.table (lent_to o s)) (lent_tables e f s h o)
         (with_pool_alike s.domain (with_stream e n (left_of e.table o s)) (with_stream f n (left_of f.table o s)) (pool_left e.table o s) (pool_left f.table o s) (pools o)
-        (with_alike s.domain e f n (left_of e.table o s) (left_of f.table o s) at_e at_f (left o) h))
+        (with_alike s.domain e f n (left_of e.table o s) (left_of f.table o s) at_e at_f (lent_left e f s h o) h))
+
+worked_alone_alike : (e f : EndpointState) (n : ℕ) (s : StreamState) → n < length e.streams → n < length f.streams → AreSeenAlike s.domain e f → AreSeenAlike s.domain (with_worked_alone e n s) (with_worked_alone f n s)
+worked_alone_alike e f n s at_e at_f h = subst (λ o. AreSeenAlike s.domain (with_worked_alone e n s) (made f (emptied o))) h.pool (go (emptied (pool_of e s.domain)))
+  where
+    made : EndpointState → Option Pool → EndpointState
+    made x o = with_table (with_stream x n (left_of x.table o s)) (table_worked x.table (lent_to o s))
+
+    go : (o : Option Pool) → AreSeenAlike s.domain (made e o) (made f o)
+    go o =
+        with_tables_alike s.domain (with_stream e n (left_of e.table o s)) (with_stream f n (left_of f.table o s)) (table_worked e.table (lent_to o s)) (table_worked f.table (lent_to o s)) (lent_tables e f s h o)
+        (with_alike s.domain e f n (left_of e.table o s) (left_of f.table o s) at_e at_f (lent_left e f s h o) h)
+
+-- with a share
+abbrev pub worked_within : EndpointState → ℕ → ℕ → StreamState → EndpointState
+worked_within e n share s = if nat_lt (bound_buffers s) share then with_worked e n s else with_worked_alone e n s
+
+within_alike : (e f : EndpointState) (n share : ℕ) (s : StreamState) → n < length e.streams → n < length f.streams → AreSeenAlike s.domain e f → AreSeenAlike s.domain (worked_within e n share s) (worked_within f n share s)
+within_alike e f n share s at_e at_f h = go (nat_lt (bound_buffers s) share)
+  where
+    go : (fewer : Bool) → AreSeenAlike s.domain (if fewer then with_worked e n s else with_worked_alone e n s) (if fewer then with_worked f n s else with_worked_alone f n s)
+    go true = worked_alike e f n s at_e at_f h
+    go false = worked_alone_alike e f n s at_e at_f h
 
 -- what is told of a stream that is the same at both
 told_at : {A : Type 0} (d : ℕ) (e f : EndpointState) (o : Option StreamState) (at_e at_f : StreamState → A) → IsOwn d o → ((s : StreamState) → IsOwn d (Some s) → at_e s ≡ at_f s) → answer_at o (λ s. at_e (unwrap_or o unopened)) ≡ answer_at o (λ s. at_f (unwrap_or o unopened))
 told_at d e f None at_e at_f own same = refl
 told_at d e f (Some s) at_e at_f own same = ap Ok (same s own)
+
+-- a registration for a stream, under the STag that the domain's part gives
+bound_answers : (named : regions.Part → ℕ → Stag) (base len : ℕ) (d : ℕ) (e f : EndpointState) (n : ℕ) → IsOwn d (stream_of e n) → stream_of e n ≡ stream_of f n → AreSeenAlike d e f
+    → Bound (answer_or (limit_refusal e n base len) (named (tables.part_of e.table (stream_at e n).domain) (stream_at e n).domain)) ≡ Bound (answer_or (limit_refusal f n base len) (named (tables.part_of f.table (stream_at f n).domain) (stream_at f n).domain))
+bound_answers named base len d e f n own same h = go (stream_of e n) own ∙ ap (bound f) same
+  where
+    bound : EndpointState → Option StreamState → StreamAnswer
+    bound x o =
+        Bound (answer_or (option_or (refusal_at o (λ s. if ended s then Some limits.Ended else None)) (option_map (λ refusal. Refused (limits.Refused refusal)) (regions.own_register_refusal (tables.part_of x.table (unwrap_or o unopened).domain) base len)))
+        (named (tables.part_of x.table (unwrap_or o unopened).domain) (unwrap_or o unopened).domain))
+
+    go : (o : Option StreamState) → IsOwn d o → bound e o ≡ bound f o
+    go None own = refl
+    go (Some s) own = ap (λ part.
+        Bound (answer_or (option_or (refusal_at (Some s) (λ s. if ended s then Some limits.Ended else None)) (option_map (λ refusal. Refused (limits.Refused refusal)) (regions.own_register_refusal part base len)))
+        (named part s.domain))) (at_own d e f s own h).part
 
 stream_answers : (d : ℕ) (e f : EndpointState) (n : ℕ) (call : StreamCall) → IsOwn d (stream_of e n) → stream_of e n ≡ stream_of f n → AreSeenAlike d e f → stream_answer e n call ≡ stream_answer f n call
 stream_answers d e f n (Accept private) own same h = ap (λ o. Accepted (answer_or (refusal_at o (λ s. stream.answer_refusal s private.items)) (agreement_in (unwrap_or o unopened).start))) same
@@ -95,23 +142,26 @@ stream_answers d e f n Work own same h = go (stream_of e n) own ∙ ap (λ o. Wo
     go : (o : Option StreamState) → IsOwn d o → Worked (answer_at o (λ s. work_step e.table (lent_to (pool_of e s.domain) s))) ≡ Worked (answer_at o (λ s. work_step f.table (lent_to (pool_of f s.domain) s)))
     go None own = refl
     go (Some s) own = ap (λ x. Worked (Ok x)) (step_seen e f s (seen_own d e f s own h))
+stream_answers d e f n (WorkWithin share) own same h = go (stream_of e n) own ∙ ap (by_share f) same
+  where
+    by_share : EndpointState → Option StreamState → StreamAnswer
+    by_share x o =
+        Worked (if nat_lt (bound_buffers (unwrap_or o unopened)) share then answer_at o (λ s. work_step x.table (lent_to (pool_of x s.domain) s)) else answer_at o (λ s. work_step x.table (lent_to (emptied (pool_of x s.domain)) s)))
+
+    go : (o : Option StreamState) → IsOwn d o → by_share e o ≡ by_share f o
+    go None own = refl
+    go (Some s) own =
+        let seen = seen_own d e f s own h in
+        let fewer = step_seen e f s seen in
+        let full = alone_seen e f s seen in
+        λ i. Worked (if nat_lt (bound_buffers s) share then Ok (fewer i) else Ok (full i))
 stream_answers d e f n Emit own same h =
     (λ i. Emitted (told_at d e f (stream_of e n) (emission_of e.table) (emission_of f.table) own (λ s own. emission-alike s e.table f.table (at_own d e f s own h)) i) (told_at d e f (stream_of e n) (emitted e.table) (emitted f.table) own (λ s own. emitted-alike s e.table f.table (at_own d e f s own h)) i))
     ∙ ap (λ o. Emitted (answer_at o (λ s. emission_of f.table (unwrap_or o unopened))) (answer_at o (λ s. emitted f.table (unwrap_or o unopened)))) same
 stream_answers d e f n BreakLink own same h = ap (λ o. Broke (answer_at o (λ s. tt))) same
 stream_answers d e f n Close own same h = ap (λ o. Closed (refusal_at o rest_refusal)) same
-stream_answers d e f n (RegisterFor base octets rights) own same h = go (stream_of e n) own ∙ ap (bound f) same
-  where
-    bound : EndpointState → Option StreamState → StreamAnswer
-    bound x o =
-        Bound (answer_or (option_or (refusal_at o (λ s. if ended s then Some limits.Ended else None)) (option_map (λ refusal. Refused (limits.Refused refusal)) (register_refusal x.table (unwrap_or o unopened).domain base (length octets))))
-        (next_stag x.table (unwrap_or o unopened).domain))
-
-    go : (o : Option StreamState) → IsOwn d o → bound e o ≡ bound f o
-    go None own = refl
-    go (Some s) own = ap (λ part.
-        Bound (answer_or (option_or (refusal_at (Some s) (λ s. if ended s then Some limits.Ended else None)) (option_map (λ refusal. Refused (limits.Refused refusal)) (regions.own_register_refusal part base (length octets))))
-        (regions.own_next_stag part s.domain))) (at_own d e f s own h).part
+stream_answers d e f n (RegisterFor base octets rights) own same h = bound_answers regions.own_next_stag base (length octets) d e f n own same h
+stream_answers d e f n (RegisterDrawnFor base octets rights drawn) own same h = bound_answers (λ part pd. regions.own_drawn_stag part pd drawn) base (length octets) d e f n own same h
 stream_answers d e f n (SetMulpdu size) own same h = ap (λ o. Sized (refusal_at o (λ s. stream.size_refusal size))) same
 stream_answers d e f n Private own same h = ap (λ o. Shown (answer_at o (λ s. private_in (unwrap_or o unopened).start))) same
 stream_answers d e f n Told own same h = ap (λ o. Declared (answer_at o (λ s. told_in (unwrap_or o unopened).start))) same
@@ -124,6 +174,7 @@ stream_answers d e f n DueLen own same h =
     (λ i. Counted (told_at d e f (stream_of e n) (λ s. length (emitted e.table s)) (λ s. length (emitted f.table s)) own (λ s own. ap length (emitted-alike s e.table f.table (at_own d e f s own h))) i))
     ∙ ap (λ o. Counted (answer_at o (λ s. length (emitted f.table (unwrap_or o unopened))))) same
 stream_answers d e f n InOrderPoint own same h = ap (λ o. Counted (answer_at o (λ s. (unwrap_or o unopened).arrived.floor))) same
+stream_answers d e f n BoundBuffers own same h = ap (λ o. Counted (answer_at o (λ s. bound_buffers (unwrap_or o unopened)))) same
 stream_answers d e f n Limits own same h = ap (λ o. Limited (answer_at o (λ s. tt))) same
 
 -- what each call makes of its stream, and of the endpoint
@@ -132,6 +183,30 @@ closes e n s = record e { table = retired e.table (peer_of s); streams = set e.s
 
 abbrev pub delivered : ℕ → List ℕ → StreamState → StreamState
 delivered from octets s = stream.after_deliver s from octets (delivery_of s from (length octets))
+
+-- the domain's part gets a region of the stream
+bound_alikes : (base len : ℕ) (registers : ℕ → regions.Part → regions.Part) (d : ℕ) (e f : EndpointState) (n : ℕ) → IsOwn d (stream_of e n) → stream_of e n ≡ stream_of f n → AreSeenAlike d e f
+    → AreSeenAlike d (unless (limit_refusal e n base len) e (with_table e (with_part e.table (stream_at e n).domain (registers (stream_at e n).domain (tables.part_of e.table (stream_at e n).domain)))))
+    (unless (limit_refusal f n base len) f (with_table f (with_part f.table (stream_at f n).domain (registers (stream_at f n).domain (tables.part_of f.table (stream_at f n).domain)))))
+bound_alikes base len registers d e f n own same h = subst (λ o. AreSeenAlike d (made e (stream_of e n)) (made f o)) same (go (stream_of e n) own)
+  where
+    told : RegisterRefusal → CallRefusal LimitRefusal
+    told refusal = Refused (limits.Refused refusal)
+
+    made : EndpointState → Option StreamState → EndpointState
+    made x o =
+        unless (option_or (refusal_at o (λ s. if ended s then Some limits.Ended else None)) (option_map told (regions.own_register_refusal (tables.part_of x.table (unwrap_or o unopened).domain) base len))) x
+        (with_table x (with_part x.table (unwrap_or o unopened).domain (registers (unwrap_or o unopened).domain (tables.part_of x.table (unwrap_or o unopened).domain))))
+
+    at_domain : (d : ℕ) → AreSeenAlike d e f → (b : Bool)
+        → AreSeenAlike d (unless (option_or (option_map Refused (if b then Some limits.Ended else None)) (option_map told (regions.own_register_refusal (tables.part_of e.table d) base len))) e (with_table e (with_part e.table d (registers d (tables.part_of e.table d)))))
+        (unless (option_or (option_map Refused (if b then Some limits.Ended else None)) (option_map told (regions.own_register_refusal (tables.part_of f.table d) base len))) f (with_table f (with_part f.table d (registers d (tables.part_of f.table d)))))
+    at_domain d h true = h
+    at_domain d h false = region_alike (λ part. option_map told (regions.own_register_refusal part base len)) (registers d) d e f h
+
+    go : (o : Option StreamState) → IsOwn d o → AreSeenAlike d (made e o) (made f o)
+    go None own = h
+    go (Some s) own = subst (λ x. AreSeenAlike x (made e (Some s)) (made f (Some s))) own (at_domain s.domain (seen_own d e f s own h) (ended s))
 
 stream_alikes : (d : ℕ) (e f : EndpointState) (n : ℕ) (call : StreamCall) → IsOwn d (stream_of e n) → stream_of e n ≡ stream_of f n → AreSeenAlike d e f → AreSeenAlike d (after_stream e n call) (after_stream f n call)
 stream_alikes d e f n (Accept private) own same h =
@@ -149,6 +224,9 @@ stream_alikes d e f n (Deliver from octets) own same h =
 stream_alikes d e f n Work own same h = changing_alike (λ s e. with_worked e n s) d e f n same h (λ s at_e at_f.
     let here : s.domain ≡ d = subst (λ o. IsOwn d o) at_e own in
     subst (λ x. AreSeenAlike x e f → AreSeenAlike x (with_worked e n s) (with_worked f n s)) here (worked_alike e f n s (within e.streams n s at_e) (within f.streams n s at_f)) h)
+stream_alikes d e f n (WorkWithin share) own same h = changing_alike (λ s e. worked_within e n share s) d e f n same h (λ s at_e at_f.
+    let here : s.domain ≡ d = subst (λ o. IsOwn d o) at_e own in
+    subst (λ x. AreSeenAlike x e f → AreSeenAlike x (worked_within e n share s) (worked_within f n share s)) here (within_alike e f n share s (within e.streams n s at_e) (within f.streams n s at_f)) h)
 stream_alikes d e f n Emit own same h = changing_alike (λ s e. with_stream e n (stream.after_emit e.table s)) d e f n same h (λ s at_e at_f.
     changed_alike d e f n s (stream.after_emit e.table s) (stream.after_emit f.table s) at_e at_f (after_emit-alike s e.table f.table (at_own d e f s (subst (λ o. IsOwn d o) at_e own) h)) h)
 stream_alikes d e f n BreakLink own same h = changing_alike (λ s e. with_stream e n (stream.breaks s)) d e f n same h (λ s at_e at_f. changed_alike d e f n s (stream.breaks s) (stream.breaks s) at_e at_f refl h)
@@ -157,26 +235,9 @@ stream_alikes d e f n Close own same h = refusing_alike rest_refusal (λ s e. cl
     (alike-own d s.domain e.table f.table (λ part. regions.own_retired part s.number) h.table)
     (closes_alike d (with_streams e (set e.streams n None)) (with_streams f (set f.streams n None)) n s.domain
     (put_alike d e f (set e.streams n None) (set f.streams n None) n None None (set_is e.streams n None (within e.streams n s at_e)) (set_is f.streams n None (within f.streams n s at_f)) refl h)))
-stream_alikes d e f n (RegisterFor base octets rights) own same h =
-    subst (λ o. AreSeenAlike d (made e (stream_of e n)) (made f o)) same (go (stream_of e n) own)
-  where
-    told : RegisterRefusal → CallRefusal LimitRefusal
-    told refusal = Refused (limits.Refused refusal)
-
-    made : EndpointState → Option StreamState → EndpointState
-    made x o =
-        unless (option_or (refusal_at o (λ s. if ended s then Some limits.Ended else None)) (option_map told (register_refusal x.table (unwrap_or o unopened).domain base (length octets)))) x
-        (with_table x (tables.registered x.table (unwrap_or o unopened).domain (bound_region n base octets rights)))
-
-    at_domain : (d : ℕ) → AreSeenAlike d e f → (b : Bool)
-        → AreSeenAlike d (unless (option_or (option_map Refused (if b then Some limits.Ended else None)) (option_map told (register_refusal e.table d base (length octets)))) e (with_table e (tables.registered e.table d (bound_region n base octets rights))))
-        (unless (option_or (option_map Refused (if b then Some limits.Ended else None)) (option_map told (register_refusal f.table d base (length octets)))) f (with_table f (tables.registered f.table d (bound_region n base octets rights))))
-    at_domain d h true = h
-    at_domain d h false = region_alike (λ part. option_map told (regions.own_register_refusal part base (length octets))) (λ part. regions.own_registered part (bound_region n base octets rights)) d e f h
-
-    go : (o : Option StreamState) → IsOwn d o → AreSeenAlike d (made e o) (made f o)
-    go None own = h
-    go (Some s) own = subst (λ x. AreSeenAlike x (made e (Some s)) (made f (Some s))) own (at_domain s.domain (seen_own d e f s own h) (ended s))
+stream_alikes d e f n (RegisterFor base octets rights) own same h = bound_alikes base (length octets) (λ pd part. regions.own_registered part (bound_region n base octets rights)) d e f n own same h
+stream_alikes d e f n (RegisterDrawnFor base octets rights drawn) own same h =
+    bound_alikes base (length octets) (λ pd part. regions.own_registered_at part (regions.own_drawn_stag part pd drawn) (bound_region n base octets rights)) d e f n own same h
 stream_alikes d e f n (SetMulpdu size) own same h =
     refusing_alike (λ s. stream.size_refusal size) (λ s e. with_stream e n (stream.with_mulpdu s size)) d e f n same h (λ s at_e at_f. changed_alike d e f n s (stream.with_mulpdu s size) (stream.with_mulpdu s size) at_e at_f refl h)
 stream_alikes d e f n Private own same h = h
@@ -188,6 +249,7 @@ stream_alikes d e f n PeerFirst own same h = h
 stream_alikes d e f n Sent own same h = h
 stream_alikes d e f n DueLen own same h = h
 stream_alikes d e f n InOrderPoint own same h = h
+stream_alikes d e f n BoundBuffers own same h = h
 stream_alikes d e f n Limits own same h = h
 
 delivered_domain : (s : StreamState) (from : ℕ) (octets : List ℕ) (x : Delivery) → (stream.after_deliver s from octets x).domain ≡ s.domain
@@ -216,6 +278,41 @@ worked_leaves d e n IsNew s is own =
       ended = put.ended;
     }
 
+worked_alone_leaves : (d : ℕ) (e : EndpointState) (n : ℕ) (IsNew : ℕ → ℕ → Type 0) (s : StreamState) → stream_of e n ≡ Some s → IsOwn d (Some s) → Leaves d e (with_worked_alone e n s) IsNew
+worked_alone_leaves d e n IsNew s is own =
+    let o = emptied (pool_of e s.domain) in
+    let put = leaves-changed d e n s (left_of e.table o s) IsNew is own (left_domain e.table o s) in record {
+      table = subst (λ x. KeepsOthers x e.table (table_worked e.table (lent_to o s))) own (keeps-lent o s e.table);
+      places = put.places;
+      pools = put.pools;
+      streams = put.streams;
+      closed = put.closed;
+      given = put.given;
+      owners = put.owners;
+      ended = put.ended;
+    }
+
+within_leaves : (d : ℕ) (e : EndpointState) (n share : ℕ) (IsNew : ℕ → ℕ → Type 0) (s : StreamState) → stream_of e n ≡ Some s → IsOwn d (Some s) → Leaves d e (worked_within e n share s) IsNew
+within_leaves d e n share IsNew s is own = go (nat_lt (bound_buffers s) share)
+  where
+    go : (fewer : Bool) → Leaves d e (if fewer then with_worked e n s else with_worked_alone e n s) IsNew
+    go true = worked_leaves d e n IsNew s is own
+    go false = worked_alone_leaves d e n IsNew s is own
+
+bound_leaves : (base len : ℕ) (registers : ℕ → regions.Part → regions.Part) (d : ℕ) (e : EndpointState) (n : ℕ) (IsNew : ℕ → ℕ → Type 0) → IsOwn d (stream_of e n)
+    → Leaves d e (unless (limit_refusal e n base len) e (with_table e (with_part e.table (stream_at e n).domain (registers (stream_at e n).domain (tables.part_of e.table (stream_at e n).domain))))) IsNew
+bound_leaves base len registers d e n IsNew own = go (stream_of e n) own
+  where
+    refused : Option StreamState → Option (CallRefusal LimitRefusal)
+    refused o = option_or (refusal_at o (λ s. if ended s then Some limits.Ended else None)) (option_map (λ refusal. Refused (limits.Refused refusal)) (regions.own_register_refusal (tables.part_of e.table (unwrap_or o unopened).domain) base len))
+
+    made : ℕ → EndpointState
+    made pd = with_table e (with_part e.table pd (registers pd (tables.part_of e.table pd)))
+
+    go : (o : Option StreamState) → IsOwn d o → Leaves d e (unless (refused o) e (made (unwrap_or o unopened).domain)) IsNew
+    go None own = leaves-all d e IsNew
+    go (Some s) own = subst (λ x. Leaves x e (unless (refused (Some s)) e (made s.domain)) IsNew) own (region_leaves (refused (Some s)) s.domain e (registers s.domain (tables.part_of e.table s.domain)) IsNew)
+
 stream_leaves : (d : ℕ) (e : EndpointState) (n : ℕ) (call : StreamCall) (IsNew : ℕ → ℕ → Type 0) → IsOwnNumber d e n → Leaves d e (after_stream e n call) IsNew
 stream_leaves d e n (Accept private) IsNew own =
     refusing_leaves (λ s. stream.answer_refusal s private.items) (λ s. with_stream e n (stream.accepted s private)) d e n IsNew own.0 (λ s is own. leaves-changed d e n s (stream.accepted s private) IsNew is own refl)
@@ -230,6 +327,7 @@ stream_leaves d e n (FirstNumber first) IsNew own =
 stream_leaves d e n (Deliver from octets) IsNew own =
     changing_leaves (λ s. with_stream e n (delivered from octets s)) d e n IsNew own.0 (λ s is own. leaves-changed d e n s (delivered from octets s) IsNew is own (delivered_domain s from octets (delivery_of s from (length octets))))
 stream_leaves d e n Work IsNew own = changing_leaves (λ s. with_worked e n s) d e n IsNew own.0 (worked_leaves d e n IsNew)
+stream_leaves d e n (WorkWithin share) IsNew own = changing_leaves (λ s. worked_within e n share s) d e n IsNew own.0 (within_leaves d e n share IsNew)
 stream_leaves d e n Emit IsNew own =
     changing_leaves (λ s. with_stream e n (stream.after_emit e.table s)) d e n IsNew own.0 (λ s is own. leaves-changed d e n s (stream.after_emit e.table s) IsNew is own (emit_domain e.table s))
 stream_leaves d e n BreakLink IsNew own =
@@ -247,15 +345,9 @@ stream_leaves d e n Close IsNew own = refusing_leaves rest_refusal (closes e n) 
       owners = put.owners;
       ended = put.ended;
     })
-stream_leaves d e n (RegisterFor base octets rights) IsNew own = go (stream_of e n) own.0
-  where
-    go : (o : Option StreamState) → IsOwn d o
-        → Leaves d e (unless (option_or (refusal_at o (λ s. if ended s then Some limits.Ended else None)) (option_map (λ refusal. Refused (limits.Refused refusal)) (register_refusal e.table (unwrap_or o unopened).domain base (length octets)))) e
-        (with_table e (tables.registered e.table (unwrap_or o unopened).domain (bound_region n base octets rights)))) IsNew
-    go None own = leaves-all d e IsNew
-    go (Some s) own = subst (λ x. Leaves x e (unless (option_or (refusal_at (Some s) (λ s. if ended s then Some limits.Ended else None)) (option_map (λ refusal. Refused (limits.Refused refusal)) (register_refusal e.table s.domain base (length octets)))) e
-        (with_table e (tables.registered e.table s.domain (bound_region n base octets rights)))) IsNew) own
-        (region_leaves (option_or (refusal_at (Some s) (λ s. if ended s then Some limits.Ended else None)) (option_map (λ refusal. Refused (limits.Refused refusal)) (register_refusal e.table s.domain base (length octets)))) s.domain e (regions.own_registered (tables.part_of e.table s.domain) (bound_region n base octets rights)) IsNew)
+stream_leaves d e n (RegisterFor base octets rights) IsNew own = bound_leaves base (length octets) (λ pd part. regions.own_registered part (bound_region n base octets rights)) d e n IsNew own.0
+stream_leaves d e n (RegisterDrawnFor base octets rights drawn) IsNew own =
+    bound_leaves base (length octets) (λ pd part. regions.own_registered_at part (regions.own_drawn_stag part pd drawn) (bound_region n base octets rights)) d e n IsNew own.0
 stream_leaves d e n Private IsNew own = leaves-all d e IsNew
 stream_leaves d e n Told IsNew own = leaves-all d e IsNew
 stream_leaves d e n PeerOptions IsNew own = leaves-all d e IsNew
@@ -265,6 +357,7 @@ stream_leaves d e n PeerFirst IsNew own = leaves-all d e IsNew
 stream_leaves d e n Sent IsNew own = leaves-all d e IsNew
 stream_leaves d e n DueLen IsNew own = leaves-all d e IsNew
 stream_leaves d e n InOrderPoint IsNew own = leaves-all d e IsNew
+stream_leaves d e n BoundBuffers IsNew own = leaves-all d e IsNew
 stream_leaves d e n Limits IsNew own = leaves-all d e IsNew
 
 -- ---- openings
@@ -389,6 +482,11 @@ concerns_one d e (Register pd base octets rights) all here = subst (λ x. OwnSte
     (let h = seen_alone pd e all in let f = alone pd (part_of pd e) in
     one_step pd e (Register pd base octets rights) all (ap (λ part. Registered (answer_or (regions.own_register_refusal part base (length octets)) (regions.own_next_stag part pd))) h.table.part)
     (region_alike (λ part. regions.own_register_refusal part base (length octets)) (λ part. regions.own_registered part (new_region base octets rights)) pd e f h)
+    (region_leaves (tables.register_refusal e.table pd base (length octets)) pd e _ _))
+concerns_one d e (RegisterDrawn pd base octets rights drawn) all here = subst (λ x. OwnStep x e (RegisterDrawn pd base octets rights drawn)) here
+    (let h = seen_alone pd e all in let f = alone pd (part_of pd e) in
+    one_step pd e (RegisterDrawn pd base octets rights drawn) all (ap (λ part. Registered (answer_or (regions.own_register_refusal part base (length octets)) (regions.own_drawn_stag part pd drawn))) h.table.part)
+    (region_alike (λ part. regions.own_register_refusal part base (length octets)) (λ part. regions.own_registered_at part (regions.own_drawn_stag part pd drawn) (new_region base octets rights)) pd e f h)
     (region_leaves (tables.register_refusal e.table pd base (length octets)) pd e _ _))
 concerns_one d e (Deregister stag) all here = subst (λ x. OwnStep x e (Deregister stag)) here
     (let h = seen_alone stag.domain e all in let f = alone stag.domain (part_of stag.domain e) in

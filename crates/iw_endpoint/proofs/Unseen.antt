@@ -9,7 +9,7 @@ use Rattle.iw_memory.specs.declared.peer.Peer.{Peer}
 use Rattle.iw_memory.specs.declared.refusal.StoreRefusal.{StoreRefusal}
 use Rattle.iw_memory.specs.Part.{own_region}
 use Rattle.iw_memory.specs.Region.{Region, is_bound_to, made_invalid, retired_region, region_with, overlay}
-use Rattle.iw_memory.specs.Table.{Table, with_slot, region_at, with_region, put, invalidated, retired, registered}
+use Rattle.iw_memory.specs.Table.{Table, with_slot, region_at, with_region, put, invalidated, retired, registered, registered_drawn}
 use Rattle.iw_memory.specs.TableLending.{overwritten}
 use Rattle.iw_memory.proofs.LawLemmas.{stag_cases, with_region-changes}
 use Rattle.iw_memory.proofs.ScopeLemmas.{retires}
@@ -17,9 +17,11 @@ use Rattle.iw_memory.proofs.TableLemmas.{with_region-found, with_region-none, wi
 use Rattle.iw_stream.specs.Stream.{StreamState, peer_of}
 use Rattle.iw_stream.specs.Work.{table_worked}
 use Rattle.iw_endpoint.specs.Endpoint.{EndpointState, with_table, pool_of, lent_to, store_refusal, stored, rewritten}
+use Rattle.iw_endpoint.specs.Sharing.{emptied}
 use Rattle.iw_endpoint.specs.Isolation.{StreamCall, Call, Answer, Deregister, Invalidate, Store, Local, LocalMut, AtStream, Invalidated, Stored, OfStream, stream_answer, after_stream, answer, after, unless}
 use Rattle.iw_endpoint.specs.Limited.{KnowNumbers, Spares, Hides, DifferIn, AreHidden, LimitedRegionsAreHidden, answers}
-use Rattle.iw_endpoint.proofs.Calls.{told_alike, left_alike, worked_over}
+use Rattle.iw_endpoint.proofs.Calls.{told_alike, left_alike, worked_over, alone_over}
+use Rattle.iw_endpoint.proofs.Drawn.{drawn_keeps}
 use Rattle.iw_endpoint.proofs.Limited.{limited_apart, know_step}
 use Rattle.iw_endpoint.proofs.Rewritten.{with_octets, registered_keeps, put_passes, put_over, invalidated_passes, invalidated_over, rewritten_over, deregistered_over, over_denies, over_store}
 use Rattle.iw_endpoint.proofs.Spared.{passes}
@@ -72,6 +74,9 @@ module _ (n : ℕ) (stag : Stag) (t : Table) (bound : IsBound n stag t) where
   bound_registered : (pd : ℕ) (region : Region) → IsBound n stag (registered t pd region)
   bound_registered pd region = let is = found_in n (region_at t stag) bound in still (registered t pd region) (registered_keeps t pd region stag is.region is.found)
 
+  bound_drawn : (pd drawn : ℕ) (region : Region) → IsBound n stag (registered_drawn t pd drawn region)
+  bound_drawn pd drawn region = let is = found_in n (region_at t stag) bound in still (registered_drawn t pd drawn region) (drawn_keeps t pd drawn region stag is.region is.found)
+
   bound_worked : (s : StreamState) → IsBound n stag (table_worked t s)
   bound_worked s = keeps-worked s t (IsBound n stag) (record {
     all = bound;
@@ -120,11 +125,16 @@ module _ (e : EndpointState) (n : ℕ) (stag : Stag) (r : Region) (found : regio
   stream_left : (m : ℕ) (call : StreamCall) → IsBound n stag (after_stream e m call).table × DifferIn stag (after_stream e m call) (after_stream f m call)
   stream_left m call =
       left_alike e m stag r found octets (IsBound n stag) (λ new old. IsBound n stag old.table × DifferIn stag old new) bound
-      (λ s is. bound_retired n stag e.table bound (peer_of s)) (λ pd region. bound_registered n stag e.table bound pd region) (λ new b. (b, record { octets = octets; same = refl }))
+      (λ s is. bound_retired n stag e.table bound (peer_of s)) (λ pd region. bound_registered n stag e.table bound pd region)
+      (λ pd drawn region. bound_drawn n stag e.table bound pd drawn region) (λ new b. (b, record { octets = octets; same = refl }))
       (λ s is.
       let x = lent_to (pool_of e s.domain) s in
       let over = worked_later x in
-      (bound_worked n stag e.table bound x, record { octets = over.later; same = worked_over e m stag r found octets s over.later over.is })) call
+      (bound_worked n stag e.table bound x, record { octets = over.later; same = worked_over e m stag r found octets s over.later over.is }))
+      (λ s is.
+      let x = lent_to (emptied (pool_of e s.domain)) s in
+      let over = worked_later x in
+      (bound_worked n stag e.table bound x, record { octets = over.later; same = alone_over e m stag r found octets s over.later over.is })) call
 
   stream_told : (m : ℕ) (call : StreamCall) → Hides n stag (AtStream m call) → stream_answer f m call ≡ stream_answer e m call
   stream_told m call hides = elim (eqb_tells m n) [

@@ -1,6 +1,6 @@
 -- A number that had a stream, and has none, never has one again.
 use Rattle.std.proofs.Common.{◌≡◌, ◌≢◌, ◌⊎◌, ℕ, ◌<◌, ◌≤◌, ◌^◌, Bool, true, false, cond, List, [], ◌∷◌, ◌++◌, length, set, get_or, Option, Some, None, refl, sym, ap, subst, ◌∙◌, inl, inr, arith}
-use Rattle.std.specs.Prelude.{◌||◌, is_some, unwrap_or, nat_lt, nat_le, not}
+use Rattle.std.specs.Prelude.{◌||◌, is_some, unwrap_or, nat_lt, nat_le, not, if◌then◌else◌}
 use Rattle.std.specs.Option.{option_map}
 use Rattle.std.proofs.lemmas.Bool.{cases_eq, cases_lt, false≢true}
 use Rattle.std.proofs.lemmas.Option.{none-some}
@@ -9,15 +9,17 @@ use Rattle.iw_memory.specs.Table.{Table, is_added, register_refusal}
 use Rattle.iw_stream.specs.declared.answer.OpenRefusal.TheVariants.{NumberTaken, BadNumber, NoDomain}
 use Rattle.iw_stream.specs.declared.answer.Role.{Role}
 use Rattle.iw_startup.specs.declared.config.Config.{Config}
+use Rattle.iw_stream.specs.Pooling.{bound_buffers}
 use Rattle.iw_stream.specs.Stream as stream
 use Rattle.iw_stream.specs.Stream.{StreamState, delivery_of}
 use Rattle.iw_endpoint.specs.declared.refusal.CallRefusal.TheVariants.{Refused}
 use Rattle.iw_endpoint.specs.Numbers.{put_at}
 use Rattle.iw_endpoint.specs.Endpoint.{EndpointState, Pool, fresh, no_streams, no_closed, stream_numbers, stream_of, stream_at, unopened, closed_at, is_taken, has_stream, with_pool, with_stream, with_table, with_next, with_worked, next_in, refusal_at, rest_refusal, limit_refusal, new_stream, new_shared, number_refusal, request_refusal, open_refusal, open_shared_refusal, open_shared_refusal_of, next_refusal, next_shared_refusal, domain_refusal, store_refusal, share_refusal, pool_refusal, take_refusal}
-use Rattle.iw_endpoint.specs.Isolation.{StreamCall, Accept, Reject, Post, PostRecv, FirstNumber, Deliver, Work, Emit, BreakLink, Close, SetMulpdu, Private, Told, PeerOptions, Standing, HasDue, RegisterFor, PeerFirst, Sent, DueLen, InOrderPoint, Limits, Call, AddDomain, Register, Deregister, Invalidate, Store, Facts, Local, LocalMut, Open, Share, PostShared, TakeShared, OpenShared, OpenNext, OpenSharedNext, AtStream, after, after_stream, after_all, unless, if_there}
+use Rattle.iw_endpoint.specs.Sharing.{with_worked_alone}
+use Rattle.iw_endpoint.specs.Isolation.{StreamCall, Accept, Reject, Post, PostRecv, FirstNumber, Deliver, Work, WorkWithin, Emit, BreakLink, Close, SetMulpdu, Private, Told, PeerOptions, Standing, HasDue, RegisterFor, RegisterDrawnFor, PeerFirst, Sent, DueLen, InOrderPoint, BoundBuffers, Limits, Call, AddDomain, Register, RegisterDrawn, Deregister, Invalidate, Store, Facts, Local, LocalMut, Open, Share, PostShared, TakeShared, OpenShared, OpenNext, OpenSharedNext, AtStream, after, after_stream, after_all, unless, if_there}
 use Rattle.iw_endpoint.specs.Used.{IsGiven, AreGiven, NumbersAreUsedOnce}
 use Rattle.iw_endpoint.proofs.Filled.{IsPut, set_is, put_is, within}
-use Rattle.iw_endpoint.proofs.Steps.{closes, delivered, numbered, first_none, mapped_none, never, never_shared}
+use Rattle.iw_endpoint.proofs.Steps.{closes, delivered, worked_within, numbered, first_none, mapped_none, never, never_shared}
 
 -- by number: what streams there are, and of which closed ones the domain is kept
 abbrev Streams : Type 0
@@ -139,6 +141,13 @@ changing_use new e n step = go (stream_of e n) refl
     go None is = uses_all e.streams e.closed
     go (Some s) is = step s is
 
+within_use : (e : EndpointState) (n share : ℕ) (s : StreamState) → stream_of e n ≡ Some s → UsesAt e (worked_within e n share s)
+within_use e n share s is = go (nat_lt (bound_buffers s) share)
+  where
+    go : (fewer : Bool) → UsesAt e (if fewer then with_worked e n s else with_worked_alone e n s)
+    go true = changed_use e n s _ is
+    go false = changed_use e n s _ is
+
 stream_uses : (e : EndpointState) (n : ℕ) (call : StreamCall) → length e.closed ≡ 64 → UsesAt e (after_stream e n call)
 stream_uses e n (Accept private) all = refusing_use (λ s. stream.answer_refusal s private.items) (λ s. with_stream e n (stream.accepted s private)) e n (λ s is. changed_use e n s (stream.accepted s private) is)
 stream_uses e n (Reject private) all = refusing_use (λ s. stream.answer_refusal s private.items) (λ s. with_stream e n (stream.rejected s private)) e n (λ s is. changed_use e n s (stream.rejected s private) is)
@@ -147,10 +156,12 @@ stream_uses e n (PostRecv buffer) all = refusing_use stream.recv_refusal (λ s. 
 stream_uses e n (FirstNumber first) all = refusing_use stream.first_refusal (λ s. with_stream e n (stream.with_first s first)) e n (λ s is. changed_use e n s (stream.with_first s first) is)
 stream_uses e n (Deliver from octets) all = changing_use (λ s. with_stream e n (delivered from octets s)) e n (λ s is. changed_use e n s (delivered from octets s) is)
 stream_uses e n Work all = changing_use (λ s. with_worked e n s) e n (λ s is. changed_use e n s _ is)
+stream_uses e n (WorkWithin share) all = changing_use (λ s. worked_within e n share s) e n (λ s is. within_use e n share s is)
 stream_uses e n Emit all = changing_use (λ s. with_stream e n (stream.after_emit e.table s)) e n (λ s is. changed_use e n s (stream.after_emit e.table s) is)
 stream_uses e n BreakLink all = changing_use (λ s. with_stream e n (stream.breaks s)) e n (λ s is. changed_use e n s (stream.breaks s) is)
 stream_uses e n Close all = refusing_use rest_refusal (closes e n) e n (λ s is. uses_close e.streams e.closed n s.domain (within e.streams n s is) all)
 stream_uses e n (RegisterFor base octets rights) all = tables_use (limit_refusal e n base (length octets)) e _
+stream_uses e n (RegisterDrawnFor base octets rights drawn) all = tables_use (limit_refusal e n base (length octets)) e _
 stream_uses e n (SetMulpdu size) all = refusing_use (λ s. stream.size_refusal size) (λ s. with_stream e n (stream.with_mulpdu s size)) e n (λ s is. changed_use e n s (stream.with_mulpdu s size) is)
 stream_uses e n Private all = uses_all e.streams e.closed
 stream_uses e n Told all = uses_all e.streams e.closed
@@ -161,6 +172,7 @@ stream_uses e n PeerFirst all = uses_all e.streams e.closed
 stream_uses e n Sent all = uses_all e.streams e.closed
 stream_uses e n DueLen all = uses_all e.streams e.closed
 stream_uses e n InOrderPoint all = uses_all e.streams e.closed
+stream_uses e n BoundBuffers all = uses_all e.streams e.closed
 stream_uses e n Limits all = uses_all e.streams e.closed
 
 -- a number under which a stream is opened was not used
@@ -219,6 +231,7 @@ next_shared_uses e (Some m) pd role config room given = nexts_use (next_shared_r
 step : (e : EndpointState) (call : Call) → 64 ≤ length e.streams → length e.closed ≡ 64 → IsGiven e call → UsesAt e (after e call)
 step e (AddDomain pd) room all given = tables_use (domain_refusal e pd) e _
 step e (Register pd base octets rights) room all given = tables_use (register_refusal e.table pd base (length octets)) e _
+step e (RegisterDrawn pd base octets rights drawn) room all given = tables_use (register_refusal e.table pd base (length octets)) e _
 step e (Deregister stag) room all given = uses_all e.streams e.closed
 step e (Invalidate stag) room all given = uses_all e.streams e.closed
 step e (Store stag to octets) room all given = tables_use (store_refusal e stag to (length octets)) e _

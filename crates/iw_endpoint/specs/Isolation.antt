@@ -10,7 +10,7 @@ use Rattle.iw_memory.specs.declared.region.Facts as facts
 use Rattle.iw_memory.specs.declared.rights.Rights.{Rights}
 use Rattle.iw_memory.specs.Part as slots
 use Rattle.iw_memory.specs.Table as tables
-use Rattle.iw_memory.specs.Table.{empty, with_part, region_at, register_refusal, next_stag}
+use Rattle.iw_memory.specs.Table.{empty, with_part, region_at, register_refusal, next_stag, drawn_stag}
 use Rattle.iw_queues.specs.declared.request.Request.{Request}
 use Rattle.iw_ranges.specs.declared.Delivery.{Delivery}
 use Rattle.iw_startup.specs.declared.config.Agreed.{Agreed}
@@ -39,6 +39,8 @@ use Rattle.iw_endpoint.specs.declared.refusal.ShareRefusal.{ShareRefusal}
 use Rattle.iw_endpoint.specs.declared.refusal.TakeRefusal.{TakeRefusal}
 use Rattle.iw_endpoint.specs.Numbers.{filled, trimmed}
 use Rattle.iw_endpoint.specs.Endpoint.{EndpointState, HasNumbers, Pool, closed_at, next_refusal, next_shared_refusal, opened_next, opened_shared_next, close_refusal, after_close, stream_numbers, domain_numbers, no_pools, fresh, pool_of, share_refusal, shared, pool_refusal, pooled, take_refusal, taken_at, after_take, open_shared_refusal, opened_shared, stream_of, stream_at, limit_refusal, limited, answer_at, domain_refusal, added, registered, octets_of, deregistered, invalidated, facts_at, store_refusal, stored, rewritten, open_refusal, opened, answer_refusal, agreement, accepted, rejected, post_refusal, with_request, recv_refusal, with_buffer, delivery_at, after_deliver, emission_at, emitted_at, after_emit, step_at, after_work, broken, size_refusal, with_mulpdu, private_at, told_at, options_at, standing_at, has_due, sent_at, point_at, first_refusal, with_first, first_at}
+use Rattle.iw_endpoint.specs.Drawing.{registered_drawn, limited_drawn}
+use Rattle.iw_endpoint.specs.Sharing.{bound_at, step_within, after_work_within}
 
 -- ---- calls, as values
 
@@ -51,10 +53,12 @@ pub data StreamCall : Type 0 where
   FirstNumber : ℕ → StreamCall
   Deliver : ℕ → List ℕ → StreamCall
   Work : StreamCall
+  WorkWithin : ℕ → StreamCall  -- with the share
   Emit : StreamCall
   BreakLink : StreamCall
   Close : StreamCall
   RegisterFor : ℕ → List ℕ → Rights → StreamCall
+  RegisterDrawnFor : ℕ → List ℕ → Rights → ℕ → StreamCall
   SetMulpdu : ℕ → StreamCall
   Private : StreamCall
   Told : StreamCall
@@ -65,11 +69,13 @@ pub data StreamCall : Type 0 where
   Sent : StreamCall
   DueLen : StreamCall
   InOrderPoint : StreamCall
+  BoundBuffers : StreamCall
   Limits : StreamCall
 
 pub data Call : Type 0 where
   AddDomain : ℕ → Call
   Register : ℕ → ℕ → List ℕ → Rights → Call
+  RegisterDrawn : ℕ → ℕ → List ℕ → Rights → ℕ → Call  -- with the bits that are drawn
   Deregister : Stag → Call
   Invalidate : Stag → Call
   Store : Stag → ℕ → List ℕ → Call
@@ -145,10 +151,12 @@ stream_answer e n (PostRecv buffer) = Buffered (recv_refusal e n)
 stream_answer e n (FirstNumber first) = Numbered (first_refusal e n)
 stream_answer e n (Deliver from octets) = Delivered (answer_at (stream_of e n) (λ s. delivery_at e n from (length octets)))
 stream_answer e n Work = Worked (step_at e n)
+stream_answer e n (WorkWithin share) = Worked (step_within e n share)
 stream_answer e n Emit = Emitted (answer_at (stream_of e n) (λ s. emission_at e n)) (answer_at (stream_of e n) (λ s. emitted_at e n))
 stream_answer e n BreakLink = Broke (answer_at (stream_of e n) (λ s. tt))
 stream_answer e n Close = Closed (close_refusal e n)
 stream_answer e n (RegisterFor base octets rights) = Bound (answer_or (limit_refusal e n base (length octets)) (next_stag e.table (stream_at e n).domain))
+stream_answer e n (RegisterDrawnFor base octets rights drawn) = Bound (answer_or (limit_refusal e n base (length octets)) (drawn_stag e.table (stream_at e n).domain drawn))
 stream_answer e n (SetMulpdu size) = Sized (size_refusal e n size)
 stream_answer e n Private = Shown (answer_at (stream_of e n) (λ s. private_at e n))
 stream_answer e n Told = Declared (answer_at (stream_of e n) (λ s. told_at e n))
@@ -159,11 +167,13 @@ stream_answer e n PeerFirst = Counted (answer_at (stream_of e n) (λ s. first_at
 stream_answer e n Sent = Counted (answer_at (stream_of e n) (λ s. sent_at e n))
 stream_answer e n DueLen = Counted (answer_at (stream_of e n) (λ s. length (emitted_at e n)))
 stream_answer e n InOrderPoint = Counted (answer_at (stream_of e n) (λ s. point_at e n))
+stream_answer e n BoundBuffers = Counted (answer_at (stream_of e n) (λ s. bound_at e n))
 stream_answer e n Limits = Limited (answer_at (stream_of e n) (λ s. tt))
 
 abbrev pub answer : EndpointState → Call → Answer
 answer e (AddDomain pd) = Added (domain_refusal e pd)
 answer e (Register pd base octets rights) = Registered (answer_or (register_refusal e.table pd base (length octets)) (next_stag e.table pd))
+answer e (RegisterDrawn pd base octets rights drawn) = Registered (answer_or (register_refusal e.table pd base (length octets)) (drawn_stag e.table pd drawn))
 answer e (Deregister stag) = Octets (octets_of e stag)
 answer e (Invalidate stag) = Invalidated (is_some (region_at e.table stag))
 answer e (Store stag to octets) = Stored (store_refusal e stag to (length octets))
@@ -189,10 +199,12 @@ after_stream e n (PostRecv buffer) = unless (recv_refusal e n) e (with_buffer e 
 after_stream e n (FirstNumber first) = unless (first_refusal e n) e (with_first e n first)
 after_stream e n (Deliver from octets) = if_there (stream_of e n) e (after_deliver e n from octets)
 after_stream e n Work = if_there (stream_of e n) e (after_work e n)
+after_stream e n (WorkWithin share) = if_there (stream_of e n) e (after_work_within e n share)
 after_stream e n Emit = if_there (stream_of e n) e (after_emit e n)
 after_stream e n BreakLink = if_there (stream_of e n) e (broken e n)
 after_stream e n Close = unless (close_refusal e n) e (after_close e n)
 after_stream e n (RegisterFor base octets rights) = unless (limit_refusal e n base (length octets)) e (limited e n base octets rights)
+after_stream e n (RegisterDrawnFor base octets rights drawn) = unless (limit_refusal e n base (length octets)) e (limited_drawn e n base octets rights drawn)
 after_stream e n (SetMulpdu size) = unless (size_refusal e n size) e (with_mulpdu e n size)
 after_stream e n Private = e
 after_stream e n Told = e
@@ -203,11 +215,13 @@ after_stream e n PeerFirst = e
 after_stream e n Sent = e
 after_stream e n DueLen = e
 after_stream e n InOrderPoint = e
+after_stream e n BoundBuffers = e
 after_stream e n Limits = e
 
 abbrev pub after : EndpointState → Call → EndpointState
 after e (AddDomain pd) = unless (domain_refusal e pd) e (added e pd)
 after e (Register pd base octets rights) = unless (register_refusal e.table pd base (length octets)) e (registered e pd base octets rights)
+after e (RegisterDrawn pd base octets rights drawn) = unless (register_refusal e.table pd base (length octets)) e (registered_drawn e pd base octets rights drawn)
 after e (Deregister stag) = deregistered e stag
 after e (Invalidate stag) = invalidated e stag
 after e (Store stag to octets) = unless (store_refusal e stag to (length octets)) e (stored e stag to octets)
@@ -281,6 +295,7 @@ IsOwnNumber d e n = IsOwn d (stream_of e n) × IfSome (closed_at e n) (λ x. x �
 abbrev pub Concerns : ℕ → EndpointState → Call → Type 0
 Concerns d e (AddDomain pd) = pd ≡ d
 Concerns d e (Register pd base octets rights) = pd ≡ d
+Concerns d e (RegisterDrawn pd base octets rights drawn) = pd ≡ d
 Concerns d e (Deregister stag) = stag.domain ≡ d
 Concerns d e (Invalidate stag) = stag.domain ≡ d
 Concerns d e (Store stag to octets) = stag.domain ≡ d
@@ -308,6 +323,7 @@ Opens n d (OpenNext m pd role config) = (m ≡ Some n) × (pd ≡ d)
 Opens n d (OpenSharedNext m pd role config) = (m ≡ Some n) × (pd ≡ d)
 Opens n d (AddDomain pd) = ⊥
 Opens n d (Register pd base octets rights) = ⊥
+Opens n d (RegisterDrawn pd base octets rights drawn) = ⊥
 Opens n d (Deregister stag) = ⊥
 Opens n d (Invalidate stag) = ⊥
 Opens n d (Store stag to octets) = ⊥
@@ -344,6 +360,7 @@ CallsConcernOneDomain = (d : ℕ) (e : EndpointState) (call : Call) → HasDomai
 abbrev pub concerned : (ℕ → ℕ) → Call → ℕ
 concerned whose (AddDomain pd) = pd
 concerned whose (Register pd base octets rights) = pd
+concerned whose (RegisterDrawn pd base octets rights drawn) = pd
 concerned whose (Deregister stag) = stag.domain
 concerned whose (Invalidate stag) = stag.domain
 concerned whose (Store stag to octets) = stag.domain

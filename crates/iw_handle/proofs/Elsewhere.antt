@@ -1,5 +1,5 @@
 -- A call that is on another stream, or on none, leaves a stream as it is; and what the stream does reads no region and no pool.
-use Rattle.std.proofs.Common.{◌≡◌, ◌≢◌, ℕ, ◌+◌, Bool, true, false, cond, not, List, set, get_or, Option, Some, None, Result, Ok, Err, refl, sym, ap, ◌∙◌}
+use Rattle.std.proofs.Common.{◌≡◌, ◌≢◌, ℕ, ◌+◌, Bool, true, false, cond, not, if◌then◌else◌, List, set, get_or, Option, Some, None, Result, Ok, Err, refl, sym, ap, ◌∙◌}
 use Rattle.std.specs.Prelude.{unwrap_or}
 use Rattle.std.specs.Option.{option_map_or}
 use Rattle.std.proofs.lemmas.Bool.{false≢true}
@@ -21,8 +21,9 @@ use Rattle.iw_stream.specs.Starting.{is_open, awaits_frame, progress_in, first_p
 use Rattle.iw_stream.specs.Stream.{StreamState, ended, due, is_none_due}
 use Rattle.iw_stream.specs.Work.{Task, HandOut, GiveUp, GiveBack, Hear, Turn, Clash, Judge, Try, Rest, clash_fault, task, frame_task, inbox, standing, heard_step, turned_step, judged_step, tried_step, step_of, work_step}
 use Rattle.iw_endpoint.specs.declared.refusal.NoSuchStream.{NoSuchStream}
-use Rattle.iw_endpoint.specs.Endpoint.{EndpointState, Pool, pool_of, lent_to, stream_of, unopened, answer_at, new_stream, new_shared, answer_refusal, post_refusal, recv_refusal, first_refusal, close_refusal, limit_refusal, size_refusal, domain_refusal, store_refusal, open_refusal, share_refusal, pool_refusal, take_refusal, open_shared_refusal, next_refusal, next_shared_refusal, opened_next, opened_shared_next}
-use Rattle.iw_endpoint.specs.Isolation.{StreamCall, Accept, Reject, Post, PostRecv, FirstNumber, Deliver, Work, Emit, BreakLink, Close, RegisterFor, SetMulpdu, Private, Told, PeerOptions, Standing, HasDue, PeerFirst, Sent, DueLen, InOrderPoint, Limits, Call, AddDomain, Register, Deregister, Invalidate, Store, Facts, Local, LocalMut, Open, Share, PostShared, TakeShared, OpenShared, OpenNext, OpenSharedNext, AtStream, after, after_stream, unless, if_there}
+use Rattle.iw_endpoint.specs.Endpoint.{EndpointState, Pool, pool_of, lent_to, stream_of, unopened, answer_at, after_work, new_stream, new_shared, answer_refusal, post_refusal, recv_refusal, first_refusal, close_refusal, limit_refusal, size_refusal, domain_refusal, store_refusal, open_refusal, share_refusal, pool_refusal, take_refusal, open_shared_refusal, next_refusal, next_shared_refusal, opened_next, opened_shared_next}
+use Rattle.iw_endpoint.specs.Sharing.{has_fewer, after_work_alone, after_work_within}
+use Rattle.iw_endpoint.specs.Isolation.{StreamCall, Accept, Reject, Post, PostRecv, FirstNumber, Deliver, Work, WorkWithin, Emit, BreakLink, Close, RegisterFor, RegisterDrawnFor, SetMulpdu, Private, Told, PeerOptions, Standing, HasDue, PeerFirst, Sent, DueLen, InOrderPoint, BoundBuffers, Limits, Call, AddDomain, Register, RegisterDrawn, Deregister, Invalidate, Store, Facts, Local, LocalMut, Open, Share, PostShared, TakeShared, OpenShared, OpenNext, OpenSharedNext, AtStream, after, after_stream, unless, if_there}
 use Rattle.iw_endpoint.proofs.Filled.{put_is}
 use Rattle.iw_endpoint.proofs.Steps.{never as none_left, never_shared as none_left_shared}
 use Rattle.iw_handle.specs.Elsewhere.{HasNoWork, IsElsewhere, CallsGiveWorkToTheirOwnStream}
@@ -40,6 +41,13 @@ same_there (Some s) e f n same = same
 other : (e : EndpointState) (m n : ℕ) (o : Option StreamState) → n ≢ m → get_or (set e.streams m o) n None ≡ stream_of e n
 other e m n o ne = get_or-set_other e.streams m n o None ne
 
+within_other : (e : EndpointState) (m share n : ℕ) → n ≢ m → stream_of (after_work_within e m share) n ≡ stream_of e n
+within_other e m share n ne = go (has_fewer e m share)
+  where
+    go : (fewer : Bool) → stream_of (if fewer then after_work e m else after_work_alone e m) n ≡ stream_of e n
+    go true = other e m n _ ne
+    go false = other e m n _ ne
+
 at_other : (e : EndpointState) (m n : ℕ) (call : StreamCall) → n ≢ m → stream_of (after_stream e m call) n ≡ stream_of e n
 at_other e m n (Accept private) ne = same_unless (answer_refusal e m private.items) e _ n (other e m n _ ne)
 at_other e m n (Reject private) ne = same_unless (answer_refusal e m private.items) e _ n (other e m n _ ne)
@@ -48,10 +56,12 @@ at_other e m n (PostRecv buffer) ne = same_unless (recv_refusal e m) e _ n (othe
 at_other e m n (FirstNumber first) ne = same_unless (first_refusal e m) e _ n (other e m n _ ne)
 at_other e m n (Deliver from octets) ne = same_there (stream_of e m) e _ n (other e m n _ ne)
 at_other e m n Work ne = same_there (stream_of e m) e _ n (other e m n _ ne)
+at_other e m n (WorkWithin share) ne = same_there (stream_of e m) e (after_work_within e m share) n (within_other e m share n ne)
 at_other e m n Emit ne = same_there (stream_of e m) e _ n (other e m n _ ne)
 at_other e m n BreakLink ne = same_there (stream_of e m) e _ n (other e m n _ ne)
 at_other e m n Close ne = same_unless (close_refusal e m) e _ n (other e m n _ ne)
 at_other e m n (RegisterFor base octets rights) ne = same_unless (limit_refusal e m base _) e _ n refl
+at_other e m n (RegisterDrawnFor base octets rights drawn) ne = same_unless (limit_refusal e m base _) e _ n refl
 at_other e m n (SetMulpdu size) ne = same_unless (size_refusal e m size) e _ n (other e m n _ ne)
 at_other e m n Private ne = refl
 at_other e m n Told ne = refl
@@ -62,6 +72,7 @@ at_other e m n PeerFirst ne = refl
 at_other e m n Sent ne = refl
 at_other e m n DueLen ne = refl
 at_other e m n InOrderPoint ne = refl
+at_other e m n BoundBuffers ne = refl
 at_other e m n Limits ne = refl
 
 refused_same : {R : Type 0} (q : Option R) (e f : EndpointState) (n : ℕ) → (q ≡ None → ⊥) → stream_of (unless q e f) n ≡ stream_of e n
@@ -71,6 +82,7 @@ refused_same (Some r) e f n refuses = refl
 same : (e : EndpointState) (n : ℕ) (call : Call) → IsElsewhere n call → stream_of (after e call) n ≡ stream_of e n
 same e n (AddDomain pd) away = same_unless (domain_refusal e pd) e _ n refl
 same e n (Register pd base octets rights) away = same_unless (register_refusal e.table pd base _) e _ n refl
+same e n (RegisterDrawn pd base octets rights drawn) away = same_unless (register_refusal e.table pd base _) e _ n refl
 same e n (Deregister stag) away = refl
 same e n (Invalidate stag) away = refl
 same e n (Store stag to octets) away = same_unless (store_refusal e stag to _) e _ n refl
