@@ -562,7 +562,7 @@ int32_t iwarp_room(struct iwarp *handle, uint32_t stream, size_t want, uint8_t *
 /* Tells the library that the program read `n` octets to the front of the place that is lent at this stream. They come right behind
  * the last octet that came, so no sequence number is needed. None of them is dropped, unless the stream has ended. The place is then
  * no longer lent. IWARP_NOT_LENT: `n` is 0, or more than are lent; if the place was taken back none are, and what was written there
- * is lost. */
+ * is lost. IWARP_NO_MEMORY stands in the contract alone: what is lent has its memory. */
 int32_t iwarp_came(struct iwarp *handle, uint32_t stream, size_t n);
 
 /* What a step of work did. */
@@ -712,13 +712,16 @@ int32_t iwarp_fill(struct iwarp *handle, uint32_t stream, size_t most, struct iw
  * its socket to be writable if it is 1, or if some of what was emitted is not yet written. */
 int32_t iwarp_wants_write(struct iwarp *handle, uint32_t stream, uint32_t *wants);
 
-/* How far a stream is, in octets. What is reserved becomes 0. */
+/* How far a stream is, in octets, and how often it took a path that costs more than others and does not end it (RFC 5042 6.4.4). What
+ * is reserved becomes 0. */
 struct iwarp_progress {
     uint64_t sent; /* emitted, the start-up frame among them */
     uint64_t in_order; /* of the peer's, before the in-order point */
     uint64_t due; /* of the next frame, which the next call of iwarp_emit gives; 0 if that reports IWARP_NOTHING or IWARP_DENIED */
     uint64_t bound; /* how many buffers of its domain's pool it has bound; 0 in libraries before 1.2 */
-    uint64_t reserved[3];
+    uint64_t dropped; /* how many calls of iwarp_deliver on it dropped what they had; 0 in libraries before 1.2 */
+    uint64_t tried; /* how many frames were judged before their turn, and again in it (IWARP_TRIED); 0 in libraries before 1.2 */
+    uint64_t reserved[1];
 };
 
 /* Tells how far a stream is. Whether to call iwarp_emit is told by iwarp_wants_write: `due` is 0 too if IWARP_DENIED is to be

@@ -305,9 +305,18 @@ static void print_step(struct end *end, uint32_t stream, const struct iwarp_even
     }
 }
 
+/* How far a stream is, and how often it took a slow path. */
+static struct iwarp_progress progress(struct end *end, uint32_t stream) {
+    struct iwarp_progress progress;
+    if (iwarp_progress(&end->handle, stream, &progress) != IWARP_OK) fail();
+    return progress;
+}
+
 static void work(struct end *end, uint32_t stream) {
     struct iwarp_event event;
+    uint64_t tried = progress(end, stream).tried;
     if (iwarp_work(&end->handle, stream, &event) != IWARP_OK) fail();
+    if (progress(end, stream).tried != tried + (event.kind == IWARP_TRIED)) fail();
     print_step(end, stream, &event);
 }
 
@@ -338,7 +347,9 @@ static void set_first(struct end *end, uint32_t stream, uint32_t first) {
 
 static void deliver(struct end *end, uint32_t stream, uint32_t number, const uint8_t *at, size_t n) {
     uint32_t kept;
+    uint64_t dropped = progress(end, stream).dropped;
     if (iwarp_deliver(&end->handle, stream, number, at, n, &kept) != IWARP_OK) fail();
+    if (progress(end, stream).dropped != dropped + !kept) fail();
     printf(kept ? "kept\n" : "dropped\n");
 }
 

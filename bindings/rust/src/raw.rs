@@ -348,7 +348,9 @@ structs! {
         in_order: u64,
         due: u64,
         bound: u64,
-        reserved: [u64; 3],
+        dropped: u64,
+        tried: u64,
+        reserved: [u64; 1],
     }
 }
 

@@ -184,11 +184,23 @@ pub struct Progress {
     pub due: u64,
     /// How many buffers of its domain's pool it has bound ([`Handle::work_within`](crate::Handle::work_within)).
     pub bound: u64,
+    /// How many deliveries were dropped. With `tried` it tells how often the stream took a path that costs more than others and
+    /// does not end it (RFC 5042 6.4.4).
+    pub dropped: u64,
+    /// How many of the peer's frames were judged before their turn, and again in it.
+    pub tried: u64,
 }
 
 impl Progress {
     pub(crate) fn of(progress: &raw::iwarp_progress) -> Self {
-        Self { sent: progress.sent, in_order: progress.in_order, due: progress.due, bound: progress.bound }
+        Self {
+            sent: progress.sent,
+            in_order: progress.in_order,
+            due: progress.due,
+            bound: progress.bound,
+            dropped: progress.dropped,
+            tried: progress.tried,
+        }
     }
 }
 

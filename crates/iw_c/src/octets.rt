@@ -1,7 +1,7 @@
 // Delivery, work and emission.
 ghost use Rattle.std.specs.Prelude.{◌≡◌, ◌≢◌, ◌⊎◌, pos, None, Some, length, IfSome, IfNone, IsSomeAnd};
 ghost use Rattle.std.specs.Option.{option_map};
-ghost use Rattle.iw_endpoint.specs.Endpoint.{with_first, delivery_at, after_deliver, emission_at, after_emit};
+ghost use Rattle.iw_endpoint.specs.Endpoint.{with_first, delivery_at, emission_at, after_emit};
 ghost use Rattle.iw_handle.specs.Events.{flag, kept_number, emitted_of, IsFrame};
 ghost use Rattle.iw_handle.specs.Refusals.{code_of, refusal_code};
 ghost use Rattle.iw_handle.specs.State.{called_on, refusal_in, changed, told_in, shown_in, stream_refusal};
@@ -9,7 +9,7 @@ ghost use Rattle.iw_handle.specs.State.{filled, length_told};
 ghost use Rattle.iw_handle.specs.Streams.{refusal_to_work, refusal_to_emit, refusal_to_go_on, due_shown, wants_write, progress_at};
 ghost use Rattle.iw_handle.specs.Steps.{TellsOn};
 ghost use Rattle.iw_handle.specs.declared.working.TheConstants.{QUIET_STEPS};
-ghost use Rattle.iw_handle.specs.Streams.{first_refusal, BringsAt, TriesAt, worked, event_in};
+ghost use Rattle.iw_handle.specs.Streams.{first_refusal, BringsAt, TriesAt, delivered, worked, event_in};
 ghost use Rattle.iw_handle.specs.Streams.{handed_in, refusal_to_fetch, fetched};
 
 use iw_handle::{Emitted, Event, Handle, Progress, code, kept_number};
@@ -51,8 +51,7 @@ pub extern "C" fn iwarp_deliver(
     ensures delivery { result ≡ pos 0 → Some kept.new ≡ told_in (called_on handle.old.state number)
         (λ e. kept_number (delivery_at e number sequence (length octets.now))) }
     ensures kept { result ≢ pos 0 → kept.new ≡ kept.old }
-    ensures ok { result ≡ pos 0 → handle.new.state ≡ changed (called_on handle.old.state number)
-        (λ e. after_deliver e number sequence octets.now) }
+    ensures ok { result ≡ pos 0 → handle.new.state ≡ delivered (called_on handle.old.state number) number sequence octets.now }
     ensures err { result ≢ pos 0 → handle.new.state ≡ called_on handle.old.state number }
 {
     let done = handle.deliver(alloc, number, sequence, octets);
@@ -177,7 +176,7 @@ pub extern "C" fn iwarp_wants_write(
     code(done.err())
 }
 
-/// Tells how far a stream is, in octets.
+/// Tells how far a stream is, in octets, and how often it took a slow path.
 #[unsafe(no_mangle)]
 pub extern "C" fn iwarp_progress(
     alloc: Global,
@@ -186,8 +185,7 @@ pub extern "C" fn iwarp_progress(
     progress: &mut Progress,
 ) -> i32
     ensures code { result ≡ pos (code_of (refusal_in handle.old.state (λ e. refusal_to_go_on e number))) }
-    ensures progress { result ≡ pos 0 → Some progress.new ≡ told_in handle.old.state
-        (λ e. progress_at e number) }
+    ensures progress { result ≡ pos 0 → Some progress.new ≡ option_map (λ held. progress_at held number) handle.old.state }
     ensures untold { result ≢ pos 0 → progress.new ≡ progress.old }
     ensures same { handle.new.state ≡ handle.old.state }
 {

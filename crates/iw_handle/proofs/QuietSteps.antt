@@ -16,11 +16,11 @@ use Rattle.iw_lines.specs.Lines.{LineTable, line_at}
 use Rattle.iw_handle.specs.declared.refusal.Refusal.{Refusal}
 use Rattle.iw_handle.specs.declared.refusal.Refusal.TheVariants.{NoMemory}
 use Rattle.iw_handle.specs.Events.{event_of, event_at}
-use Rattle.iw_handle.specs.Streams.{refusal_to_work, TriesAt, lines_by, lines_after, held_worked}
+use Rattle.iw_handle.specs.Streams.{refusal_to_work, TriesAt, lines_by, lines_passed, lines_after, held_worked}
 use Rattle.iw_handle.specs.Steps.{is_quiet, is_quiet_answer, is_quiet_at, GoesQuietly, after_steps, Works, WorksOn}
 
 -- it hands nothing back, and no message is done
-pub lines_by-quiet : (step : Step (List ℕ)) (number : ℕ) (lines : LineTable) → is_quiet step ≡ true → lines_by step number lines ≡ lines
+pub lines_by-quiet : (step : Step (List ℕ)) (number : ℕ) (lines : LineTable) → is_quiet step ≡ true → lines_by step number lines ≡ lines_passed step number lines
 lines_by-quiet (Placed right stag to len) number lines quiet = refl
 lines_by-quiet (Buffered msn mo len) number lines quiet = refl
 lines_by-quiet (Requested size stag to) number lines quiet = refl
@@ -82,9 +82,10 @@ module _ (now : Held) (number : ℕ) (step : Step (List ℕ))
         let P : ℕ → Type 0 = λ k. GoesQuietly (after_steps k held number) number in
         below_more P before all (subst (λ (h : Held). GoesQuietly h number) came (goes quiet))
 
-    pub one_more : let after : Held = record now { endpoint = e; lines = now.lines } in after ≡ after_steps (before + 1) held number
-    one_more =
-        worked now.lines (sym (lines_by-quiet step number now.lines quiet)) ∙ ap (λ h. held_worked h number) came
+    pub one_more : (lines : LineTable) → lines ≡ lines_passed step number now.lines →
+        let after : Held = record now { endpoint = e; lines = lines } in after ≡ after_steps (before + 1) held number
+    one_more lines passed =
+        worked lines (passed ∙ sym (lines_by-quiet step number now.lines quiet)) ∙ ap (λ h. held_worked h number) came
         ∙ sym (after_steps-more before held number)
 
   -- the step is told, and what it hands back is kept

@@ -12,7 +12,7 @@ use Rattle.iw_lines.specs.Lines.{LineTable, line_at}
 use Rattle.iw_handle.specs.declared.refusal.Refusal.{Refusal}
 use Rattle.iw_handle.specs.declared.refusal.Refusal.TheVariants.{NoMemory}
 use Rattle.iw_handle.specs.Events.{event_of, event_at}
-use Rattle.iw_handle.specs.Streams.{refusal_to_work, lines_by, lines_after}
+use Rattle.iw_handle.specs.Streams.{refusal_to_work, lines_by, lines_passed, lines_after}
 use Rattle.iw_handle.specs.Steps.{is_quiet, is_quiet_answer}
 use Rattle.iw_handle.specs.Sharing.{TriesWithin, held_worked_within, is_quiet_within, GoesQuietlyWithin, after_steps_within, WorksWithin, WorksOnWithin}
 use Rattle.iw_handle.proofs.QuietSteps.{lines_by-quiet, Answered, none_refused, same_refusal}
@@ -46,9 +46,10 @@ module _ (now : Held) (number share : ℕ) (step : Step (List ℕ))
         let P : ℕ → Type 0 = λ k. GoesQuietlyWithin (after_steps_within k held number share) number share in
         below_more P before all (subst (λ (h : Held). GoesQuietlyWithin h number share) came (goes quiet))
 
-    pub one_more : let after : Held = record now { endpoint = e; lines = now.lines } in after ≡ after_steps_within (before + 1) held number share
-    one_more =
-        worked now.lines (sym (lines_by-quiet step number now.lines quiet)) ∙ ap (λ h. held_worked_within h number share) came
+    pub one_more : (lines : LineTable) → lines ≡ lines_passed step number now.lines →
+        let after : Held = record now { endpoint = e; lines = lines } in after ≡ after_steps_within (before + 1) held number share
+    one_more lines passed =
+        worked lines (passed ∙ sym (lines_by-quiet step number now.lines quiet)) ∙ ap (λ h. held_worked_within h number share) came
         ∙ sym (after_steps_within-more before held number share)
 
   -- the step is told, and what it hands back is kept

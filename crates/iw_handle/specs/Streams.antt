@@ -8,6 +8,8 @@ use Rattle.iw_octets.specs.declared.stag.Stag.{Stag}
 use Rattle.iw_queues.specs.declared.request.Request.{Request}
 use Rattle.iw_queues.specs.declared.request.Request.TheVariants as requests
 use Rattle.iw_ranges.specs.Arrived.{BringsOctets}
+use Rattle.iw_ranges.specs.declared.Delivery.{Delivery}
+use Rattle.iw_ranges.specs.declared.Delivery.TheVariants.{Kept, Dropped}
 use Rattle.iw_stream.specs.Stream.{ended, place_of, left_out}
 use Rattle.iw_stream.specs.Work.{IsTry, task}
 use Rattle.iw_stream.specs.declared.answer.Step.{Step}
@@ -15,12 +17,12 @@ use Rattle.iw_stream.specs.declared.answer.Step.TheVariants.{Done, Flushed, Flus
 use Rattle.iw_stream.specs.declared.answer.Step.TheVariants.{Buffered, Requested, Tried, Passed, Received, Terminated}
 use Rattle.iw_stream.specs.declared.answer.Step.TheVariants.{Fault, Idle}
 use Rattle.iw_lines.specs.Handed.{nothing_handed, whole, told_of}
-use Rattle.iw_lines.specs.Line.{with_handed, with_posted, oldest_token, without_oldest}
+use Rattle.iw_lines.specs.Line.{with_handed, with_posted, oldest_token, without_oldest, counted_dropped, counted_tried}
 use Rattle.iw_lines.specs.Lines.{LineTable, line_at, with_line}
 use Rattle.iw_endpoint.specs.declared.refusal.NoSuchStream.{NoSuchStream}
 use Rattle.iw_endpoint.specs.Endpoint as endpoint
 use Rattle.iw_endpoint.specs.Endpoint.{EndpointState, has_stream, stream_at, private_at, sent_at, point_at}
-use Rattle.iw_endpoint.specs.Endpoint.{step_at, after_work, emission_at, emitted_at, pool_of, lent_to}
+use Rattle.iw_endpoint.specs.Endpoint.{delivery_at, after_deliver, step_at, after_work, emission_at, emitted_at, pool_of, lent_to}
 use Rattle.iw_endpoint.specs.Sharing.{bound_at}
 use Rattle.iw_codes.specs.declared.numbers.TheConstants as numbers
 use Rattle.iw_handle.specs.declared.event.Event.{Event}
@@ -88,8 +90,29 @@ due_shown e number = if_none (refusal_to_go_on e number) (emitted_at e number)
 abbrev pub private_shown : EndpointState → ℕ → Option (List ℕ)
 private_shown e number = if has_stream e number then Some (private_at e number) else None
 
+-- a delivery that was dropped is counted
+abbrev pub lines_delivered : Delivery → ℕ → LineTable → LineTable
+lines_delivered Kept number lines = lines
+lines_delivered Dropped number lines = with_line lines number (counted_dropped (line_at lines number))
+
+-- what a delivery leaves
+abbrev pub held_delivered : Held → ℕ → ℕ → List ℕ → Held
+held_delivered held number from octets = record held {
+  endpoint = after_deliver held.endpoint number from octets;
+  lines = lines_delivered (delivery_at held.endpoint number from (length octets)) number held.lines;
+}
+
+abbrev pub delivered : State → ℕ → ℕ → List ℕ → State
+delivered state number from octets = option_map (λ held. held_delivered held number from octets) state
+
+-- a frame that was judged before its turn is counted
+abbrev pub lines_passed : Step (List ℕ) → ℕ → LineTable → LineTable
+lines_passed (Tried place) number lines = with_line lines number (counted_tried (line_at lines number))
+lines_passed step number lines = lines
+
 -- what waits at a stream after a step: the message, or the buffer of an ended stream, that it hands back; and what is posted,
--- without the message that is done or given up, whose octets wait if it was posted from a buffer
+-- without the message that is done or given up, whose octets wait if it was posted from a buffer. A frame that was judged before
+-- its turn is counted
 abbrev pub lines_by : Step (List ℕ) → ℕ → LineTable → LineTable
 lines_by (Received buffer len solicited invalidate) number lines =
     with_line lines number (with_handed (line_at lines number) (record { buffer = buffer; len = len }))
@@ -102,7 +125,7 @@ lines_by (Closed fault) number lines = lines
 lines_by (Placed right stag to len) number lines = lines
 lines_by (Buffered msn mo len) number lines = lines
 lines_by (Requested size stag to) number lines = lines
-lines_by (Tried place) number lines = lines
+lines_by (Tried place) number lines = with_line lines number (counted_tried (line_at lines number))
 lines_by Passed number lines = lines
 lines_by (Terminated fault) number lines = lines
 lines_by (Fault fault) number lines = lines
@@ -153,15 +176,15 @@ abbrev pub wants_write : EndpointState → ℕ → Bool
 wants_write e number = not ((emitted_of (emission_at e number)).kind == numbers.NOTHING)
 
 -- how far a stream is
-abbrev pub progress_at : EndpointState → ℕ → Progress
-progress_at e number = record {
+abbrev pub progress_at : Held → ℕ → Progress
+progress_at held number = let e = held.endpoint in let slow = (line_at held.lines number).slow in record {
   sent = sent_at e number;
   in_order = point_at e number;
   due = length (emitted_at e number);
   bound = bound_at e number;
+  dropped = slow.dropped;
+  tried = slow.tried;
   reserved_0 = 0;
-  reserved_1 = 0;
-  reserved_2 = 0;
 }
 
 -- ---- what is posted

@@ -1,5 +1,6 @@
 // Emission.
 ghost use Rattle.std.specs.Prelude.{◌≡◌, None, Some, length, IfSome, IfNone, IfOk, IfErr, OnOk, OnErr};
+ghost use Rattle.std.specs.Option.{option_map};
 ghost use Rattle.std.specs.Result.{result_err};
 ghost use Rattle.iw_endpoint.specs.Endpoint.{emission_at, emitted_at, after_emit};
 ghost use Rattle.iw_handle.specs.Events.{emitted_of, IsFrame};
@@ -8,6 +9,7 @@ ghost use Rattle.iw_handle.specs.Streams.{refusal_to_emit, refusal_to_go_on, due
 
 use crate::event::{Emitted, Progress, emitted_of};
 use crate::handle::Handle;
+use crate::held::Held;
 use crate::refusal::Refusal;
 use iw_endpoint::{CallRefusal, Endpoint, MAX_PLACE};
 use std::alloc::Global;
@@ -58,10 +60,11 @@ fn emit(
 }
 
 // How far a stream is.
-fn progress(endpoint: &Endpoint, number: u32) -> Result<Progress, Refusal>
-    ensures refused { result_err result ≡ refusal_to_go_on endpoint.now number }
-    ensures progress { IfOk result (λ progress. progress ≡ progress_at endpoint.now number) }
+fn progress(held: &Held, number: u32) -> Result<Progress, Refusal>
+    ensures refused { result_err result ≡ refusal_to_go_on held.now.endpoint number }
+    ensures progress { IfOk result (λ progress. progress ≡ progress_at held.now number) }
 {
+    let endpoint = &held.endpoint;
     let Ok(sent) = endpoint.sent(number) else {
         return Err(Refusal::NoSuchStream);
     };
@@ -77,14 +80,15 @@ fn progress(endpoint: &Endpoint, number: u32) -> Result<Progress, Refusal>
     let Ok(bound) = endpoint.bound_buffers(number) else {
         return Err(Refusal::NoSuchStream);
     };
+    let slow = held.lines.slow_paths(number);
     Ok(Progress {
         sent,
         in_order,
         due: due as u64,
         bound: bound as u64,
+        dropped: slow.dropped,
+        tried: slow.tried,
         reserved_0: 0,
-        reserved_1: 0,
-        reserved_2: 0,
     })
 }
 
@@ -115,17 +119,17 @@ impl Handle {
     }
 
     /// How far a stream is: how many octets it has emitted, its in-order point, how many octets the next call of
-    /// [`Handle::emit`] gives, 0 also if that would tell a fault, and how many buffers of its domain's pool it has bound
-    /// ([`Endpoint::bound_buffers`]).
+    /// [`Handle::emit`] gives, 0 also if that would tell a fault, how many buffers of its domain's pool it has bound
+    /// ([`Endpoint::bound_buffers`]), and how often it took a slow path (RFC 5042 6.4.4).
     pub fn progress(&mut self, alloc: Global, number: u32) -> Result<Progress, Refusal>
         ensures refused { result_err result ≡ refusal_in self.old.state (λ e. refusal_to_go_on e number) }
-        ensures progress { IfOk result (λ progress. Some progress ≡ told_in self.old.state (λ e. progress_at e number)) }
+        ensures progress { IfOk result (λ progress. Some progress ≡ option_map (λ held. progress_at held number) self.old.state) }
         ensures same { self.new.state ≡ self.old.state }
     {
         let Some(held) = self.take(alloc) else {
             return Err(Refusal::Closed);
         };
-        let done = progress(&held.endpoint, number);
+        let done = progress(&held, number);
         self.put(held);
         done
     }

@@ -128,9 +128,11 @@ pub struct Progress {
     pub due: u64,
     /// How many buffers of its domain's pool it has bound.
     pub bound: u64,
+    /// How many deliveries were dropped, since it was opened.
+    pub dropped: u64,
+    /// How many of its frames were judged before their turn, and had to be judged again.
+    pub tried: u64,
     pub reserved_0: u64,
-    pub reserved_1: u64,
-    pub reserved_2: u64,
 }
 
 /// There was nothing to do.

@@ -11,7 +11,7 @@ use crate::event::{Event, is_quiet};
 use crate::handle::Handle;
 use crate::held::Held;
 use crate::refusal::Refusal;
-use crate::working::{MOST_MOVED, QUIET_STEPS, point, point_within, tell};
+use crate::working::{MOST_MOVED, QUIET_STEPS, pass, point, point_within, tell};
 use iw_endpoint::{CallRefusal, Endpoint, Octets, Step};
 use std::alloc::Global;
 
@@ -60,7 +60,10 @@ fn steps(
     let mut before = 0;
     'steps: loop {
         match step(&mut held.endpoint, number, share, &mut reach) {
-            Ok(step) if before < most && is_quiet(&step) => before += 1,
+            Ok(step) if before < most && is_quiet(&step) => {
+                pass(&step, number, &mut held.lines);
+                before += 1;
+            }
             Ok(step) => {
                 tell(step, number, &mut held.lines, event);
                 return Ok(());

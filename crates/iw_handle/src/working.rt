@@ -10,7 +10,8 @@ ghost use Rattle.iw_handle.specs.State.{called_on, refusal_in, changed, told_in,
 ghost use Rattle.iw_handle.specs.State.{copy_refusal, filled, length_told};
 ghost use Rattle.iw_handle.specs.Streams.{first_refusal, refusal_to_work, BringsAt, TriesAt};
 ghost use Rattle.iw_handle.specs.Streams.{handed_at, handed_in, refusal_to_fetch, fetched};
-ghost use Rattle.iw_handle.specs.Streams.{lines_by, held_worked, worked, event_in};
+ghost use Rattle.iw_handle.specs.Streams.{lines_by, lines_passed, held_worked, worked, event_in};
+ghost use Rattle.iw_handle.specs.Streams.{held_delivered, delivered};
 ghost use Rattle.iw_handle.specs.Steps.{WorksOn};
 
 use crate::copying::{check_stream, copy_out};
@@ -25,7 +26,7 @@ use std::alloc::Global;
 /// The most steps that [`Handle::work_on`] does before the one that it reports.
 pub const QUIET_STEPS: u32 = 4_095;
 
-fn deliver(
+fn deliver_at(
     endpoint: &mut Endpoint,
     number: u32,
     sequence: u32,
@@ -46,6 +47,24 @@ fn deliver(
     }
 }
 
+// The same, and counts a delivery that is dropped.
+fn deliver(held: &mut Held, number: u32, sequence: u32, octets: &[u8]) -> Result<Delivery, Refusal>
+    ensures refused { IfSome (stream_refusal held.old.endpoint number) (λ r. result ≡ Err r) }
+    ensures memory { IfNone (stream_refusal held.old.endpoint number) (IfErr result (λ e. e ≡ Refusal.NoMemory)) }
+    ensures want { IfNone (stream_refusal held.old.endpoint number)
+        (OnErr result (BringsAt held.old.endpoint number sequence (length octets.now))) }
+    ensures delivery { IfOk result (λ delivery. delivery ≡ delivery_at held.old.endpoint number sequence (length octets.now)) }
+    ensures ok { OnOk result (held.new ≡ held_delivered held.old number sequence octets.now) }
+    ensures err { OnErr result (held.new ≡ held.old) }
+{
+    let delivery = deliver_at(&mut held.endpoint, number, sequence, octets)?;
+    match delivery {
+        Delivery::Kept => {}
+        Delivery::Dropped => held.lines.count_dropped(number),
+    }
+    Ok(delivery)
+}
+
 // Tells a step, and keeps what it hands back. The token of a message that is done or given up is taken out.
 #[inline(always)]
 pub(crate) fn tell(step: Step<Octets>, number: u32, lines: &mut Lines, event: &mut Event)
@@ -57,13 +76,37 @@ pub(crate) fn tell(step: Step<Octets>, number: u32, lines: &mut Lines, event: &m
         Step::Received { buffer, len, .. } => lines.keep(number, Handed { buffer, len }),
         Step::FlushedRecv(buffer) => lines.keep(number, Handed::whole(buffer)),
         Step::Done(_) | Step::Flushed(_) => event.token = lines.pop(number),
+        Step::Tried(_) => lines.count_tried(number),
         Step::Asked
         | Step::Opened(_)
         | Step::Closed(_)
         | Step::Placed { .. }
         | Step::Buffered { .. }
         | Step::Requested { .. }
-        | Step::Tried(_)
+        | Step::Passed
+        | Step::Terminated(_)
+        | Step::Fault(_)
+        | Step::Idle => {}
+    }
+}
+
+// Passes over a quiet step: counts a frame that was judged before its turn.
+#[inline(always)]
+pub(crate) fn pass(step: &Step<Octets>, number: u32, lines: &mut Lines)
+    ensures { lines.new ≡ lines_passed step.now number lines.old }
+{
+    match step {
+        Step::Tried(_) => lines.count_tried(number),
+        Step::Received { .. }
+        | Step::FlushedRecv(_)
+        | Step::Done(_)
+        | Step::Flushed(_)
+        | Step::Asked
+        | Step::Opened(_)
+        | Step::Closed(_)
+        | Step::Placed { .. }
+        | Step::Buffered { .. }
+        | Step::Requested { .. }
         | Step::Passed
         | Step::Terminated(_)
         | Step::Fault(_)
@@ -137,7 +180,10 @@ fn steps(held: &mut Held, number: u32, most: u32, event: &mut Event) -> Result<(
     let mut before = 0;
     'steps: loop {
         match step(&mut held.endpoint, number, &mut reach) {
-            Ok(step) if before < most && is_quiet(&step) => before += 1,
+            Ok(step) if before < most && is_quiet(&step) => {
+                pass(&step, number, &mut held.lines);
+                before += 1;
+            }
             Ok(step) => {
                 tell(step, number, &mut held.lines, event);
                 return Ok(());
@@ -219,13 +265,13 @@ impl Handle {
         ensures delivery { IfOk result
             (λ delivery. Some delivery ≡ told_in (called_on self.old.state number) (λ e. delivery_at e number sequence (length octets.now))) }
         ensures ok { OnOk result
-            (self.new.state ≡ changed (called_on self.old.state number) (λ e. after_deliver e number sequence octets.now)) }
+            (self.new.state ≡ delivered (called_on self.old.state number) number sequence octets.now) }
         ensures err { OnErr result (self.new.state ≡ called_on self.old.state number) }
     {
         let Some(mut held) = self.take_on(alloc, number) else {
             return Err(Refusal::Closed);
         };
-        let done = deliver(&mut held.endpoint, number, sequence, octets);
+        let done = deliver(&mut held, number, sequence, octets);
         self.put(held);
         done
     }

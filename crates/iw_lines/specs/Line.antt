@@ -4,8 +4,9 @@ use Rattle.iw_lines.specs.declared.handed.Handed.{Handed}
 use Rattle.iw_lines.specs.declared.line.Line.{Line}
 use Rattle.iw_lines.specs.Handed.{nothing_handed}
 use Rattle.iw_lines.specs.Waiting.{pushed}
+use Rattle.iw_lines.specs.Slow.{none_counted, with_dropped, with_tried}
 
--- nothing was handed back, and nothing is posted
+-- nothing was handed back, nothing is posted, and nothing was counted
 abbrev pub new_line : Line
 new_line = record {
   handed = nothing_handed;
@@ -13,6 +14,7 @@ new_line = record {
   from_buffer = [];
   payloads = [];
   sent = [];
+  slow = none_counted;
 }
 
 abbrev pub with_handed : Line → Handed → Line
@@ -74,3 +76,11 @@ abbrev pub without_oldest : Line → Line
 without_oldest line =
     let rest = without_flag (without_token line) in
     if is_from_buffer line then with_sent (without_payload rest) (oldest_payload line) else with_sent rest []
+
+-- a delivery was dropped at the stream
+abbrev pub counted_dropped : Line → Line
+counted_dropped line = record line { slow = with_dropped line.slow }
+
+-- a frame of it was judged before its turn
+abbrev pub counted_tried : Line → Line
+counted_tried line = record line { slow = with_tried line.slow }

@@ -1,10 +1,12 @@
 ghost use Rattle.std.specs.Prelude.{◌≡◌, [], IfOk, OnOk, OnErr};
 ghost use Rattle.iw_lines.specs.Line.{new_line, with_handed, with_payload, oldest_token, without_oldest, with_sent};
 ghost use Rattle.iw_lines.specs.Line.{with_posted, with_octets, without_payload, oldest_payload};
+ghost use Rattle.iw_lines.specs.Line.{counted_dropped, counted_tried};
 ghost use Rattle.iw_lines.specs.Handed.{nothing_handed};
 
 use crate::handed::Handed;
 use crate::payload::Payload;
+use crate::slow::SlowPaths;
 use crate::waiting::{MAX_WAITING, Waiting};
 use bytes::Bytes;
 use iw_buffer::Contents;
@@ -24,6 +26,8 @@ pub struct Line {
     pub payloads: LinkedList<Bytes>,
     /// The octets of the message that was done or flushed last and not yet fetched; none if it was not posted from a buffer.
     pub sent: Bytes,
+    /// How often it took a slow path.
+    pub slow: SlowPaths,
 }
 
 impl Line {
@@ -39,6 +43,7 @@ impl Line {
             from_buffer,
             payloads: LinkedList::new(alloc),
             sent: Bytes::new(),
+            slow: SlowPaths::new(),
         })
     }
 
@@ -133,5 +138,19 @@ impl Line {
             Bytes::new()
         };
         token
+    }
+
+    /// Counts a delivery that was dropped.
+    pub(crate) fn count_dropped(&mut self)
+        ensures { self.new ≡ counted_dropped self.old }
+    {
+        self.slow.count_dropped();
+    }
+
+    /// Counts a frame that was judged before its turn.
+    pub(crate) fn count_tried(&mut self)
+        ensures { self.new ≡ counted_tried self.old }
+    {
+        self.slow.count_tried();
     }
 }

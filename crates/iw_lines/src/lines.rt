@@ -3,6 +3,7 @@ ghost use Rattle.std.specs.Prelude.{◌≡◌, [], IfOk, IsSome, OnOk, OnErr};
 use crate::handed::Handed;
 use crate::payload::Payload;
 use crate::place::Place;
+use crate::slow::SlowPaths;
 use bytes::Bytes;
 use iw_buffer::Contents;
 use std::alloc::{AllocError, Global};
@@ -30,6 +31,7 @@ impl Model for Lines {
 impl Lines {
     ghost use Rattle.iw_lines.specs.Handed.{nothing_handed, told_of};
     ghost use Rattle.iw_lines.specs.Line.{with_handed, with_posted, with_payload, oldest_token, without_oldest, with_sent};
+    ghost use Rattle.iw_lines.specs.Line.{counted_dropped, counted_tried};
     ghost use Rattle.iw_lines.specs.Lines.{no_lines, opened, closed, place_of, with_place, line_at, with_line};
 
     /// No stream has a line. It takes no memory.
@@ -178,5 +180,35 @@ impl Lines {
             return 0;
         };
         place.pop()
+    }
+
+    /// Counts a delivery that was dropped at a stream. It does nothing for a number that has no line.
+    pub fn count_dropped(&mut self, number: u32)
+        ensures { self.new ≡ with_line self.old number (counted_dropped (line_at self.old number)) }
+    {
+        let Some(place) = self.places.get_mut(&number) else {
+            return;
+        };
+        place.count_dropped();
+    }
+
+    /// Counts a frame of a stream that was judged before its turn. It does nothing for a number that has no line.
+    pub fn count_tried(&mut self, number: u32)
+        ensures { self.new ≡ with_line self.old number (counted_tried (line_at self.old number)) }
+    {
+        let Some(place) = self.places.get_mut(&number) else {
+            return;
+        };
+        place.count_tried();
+    }
+
+    /// How often a stream took a slow path, since it was opened.
+    pub fn slow_paths(&self, number: u32) -> SlowPaths
+        ensures { result ≡ (line_at self.now number).slow }
+    {
+        match self.places.get(&number) {
+            Some(place) => place.slow_paths(),
+            None => SlowPaths::new(),
+        }
     }
 }

@@ -1,10 +1,12 @@
 ghost use Rattle.std.specs.Prelude.{◌≡◌, [], IfOk, OnOk, OnErr};
 ghost use Rattle.iw_lines.specs.Line.{new_line, with_handed, with_posted, with_payload, oldest_token, without_oldest, with_sent};
+ghost use Rattle.iw_lines.specs.Line.{counted_dropped, counted_tried};
 ghost use Rattle.iw_lines.specs.Handed.{nothing_handed, told_of};
 
 use crate::handed::Handed;
 use crate::line::Line;
 use crate::payload::Payload;
+use crate::slow::SlowPaths;
 use bytes::Bytes;
 use iw_buffer::Contents;
 use std::alloc::{AllocError, Global};
@@ -83,5 +85,23 @@ impl Place {
         ensures after { self.new ≡ without_oldest self.old }
     {
         self.line.pop()
+    }
+
+    pub(crate) fn count_dropped(&mut self)
+        ensures { self.new ≡ counted_dropped self.old }
+    {
+        self.line.count_dropped();
+    }
+
+    pub(crate) fn count_tried(&mut self)
+        ensures { self.new ≡ counted_tried self.old }
+    {
+        self.line.count_tried();
+    }
+
+    pub(crate) fn slow_paths(&self) -> SlowPaths
+        ensures { result ≡ self.now.slow }
+    {
+        self.line.as_ref().slow
     }
 }

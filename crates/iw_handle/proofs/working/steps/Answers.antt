@@ -34,7 +34,7 @@ steps-preserved c =
       quiet = more_quiet loop.held c.args.number c.in-Ok.step s.refused s.step _ s.ok c.args.held.now loop.before loop.invariant.left quiet
           loop.invariant.quiet;
       same = loop.invariant.same;
-      left = one_more loop.held c.args.number c.in-Ok.step s.refused s.step _ s.ok c.args.held.now loop.before loop.invariant.left quiet;
+      left = one_more loop.held c.args.number c.in-Ok.step s.refused s.step _ s.ok c.args.held.now loop.before loop.invariant.left quiet _ c.pass.ensures;
       there = s.there;
       reach = s.reach;
     }
