@@ -1,0 +1,2 @@
+mod KeptSteps
+pub mod OctetLemmas

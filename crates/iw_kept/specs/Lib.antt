@@ -1,0 +1,3 @@
+pub mod Ownership
+pub mod Octets
+pub mod Lending
