@@ -153,7 +153,8 @@ enum {
     IWARP_NUMBERS_SPENT = 37, /* all numbers of streams, up to 2^32 - 1, were given */
     IWARP_WINDOW_FULL = 38, /* the stream's window has no room before iwarp_work makes some */
     IWARP_NOT_LENT = 39, /* no place is lent for so many octets, since it was taken back for instance; or they are none */
-    IWARP_BAD_STRUCT = 40 /* a struct's `size` is less than in the version that had it first, or its `kind` is none that the call takes */
+    IWARP_BAD_STRUCT = 40, /* a struct's `size` is less than in the version that had it first, or its `kind` is none that the call takes */
+    IWARP_OTHER_MEMORY = 41 /* the region's octets are in memory that the program keeps, or are not: another call hands them back */
 };
 
 /* Tells the address of a text that says what a code means. The text is never freed. */
@@ -297,11 +298,31 @@ int32_t iwarp_register_as(struct iwarp *handle, const struct iwarp_registration 
 int32_t iwarp_register_buffer_as(struct iwarp *handle, const struct iwarp_registration *registration,
                                  struct iwarp_buffer *buffer, uint32_t *stag);
 
+/* Memory that the program keeps: mapped from a file, of large pages, or aligned for O_DIRECT. A struct of zeroes has none. */
+struct iwarp_memory {
+    uint8_t *at; /* may be NULL if `len` is 0 */
+    size_t len; /* how many octets */
+};
+
+/* Registers memory that the program keeps, as a region that a struct describes: nothing is copied, and the struct `memory` has none
+ * then. What a peer writes stands in that memory, and what it reads is read there. The library neither frees it nor moves it.
+ *
+ * The program keeps the memory as it is, all its octets readable and writable, until iwarp_deregister_memory hands it back, or the
+ * region is deregistered or dropped, or the handle is freed. Until then it reads and writes it only as iwarp_region_at says, in no
+ * other thread or process and by no device while a call on the handle runs, and registers no octet of it twice. */
+int32_t iwarp_register_memory(struct iwarp *handle, const struct iwarp_registration *registration, struct iwarp_memory *memory,
+                              uint32_t *stag);
+
+/* Deregisters a region, valid or not, whose memory the program keeps, and tells in `memory` where it is; what stood in that struct is
+ * forgotten. IWARP_OTHER_MEMORY: the region's octets are a buffer's, or a copy. */
+int32_t iwarp_deregister_memory(struct iwarp *handle, uint32_t stag, struct iwarp_memory *memory);
+
 /* Deregisters a region, valid or not: its octets are the buffer's then, with nothing copied, and those that the buffer had
- * are freed. `buffer` was made, with 0 octets for instance, or is the one that the region was registered from. */
+ * are freed. `buffer` was made, with 0 octets for instance, or is the one that the region was registered from. IWARP_OTHER_MEMORY:
+ * the program keeps the region's memory (iwarp_deregister_memory). */
 int32_t iwarp_deregister_buffer(struct iwarp *handle, uint32_t stag, struct iwarp_buffer *buffer);
 
-/* Deregisters a region, valid or not, and frees its octets. */
+/* Deregisters a region, valid or not, and frees its octets; memory that the program keeps is not freed. */
 int32_t iwarp_drop_region(struct iwarp *handle, uint32_t stag);
 
 /* Tells the address of a region's octets, valid or not, and how many they are; it is null if there are none. They stay there

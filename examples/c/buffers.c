@@ -1,21 +1,13 @@
 /* Octets that are not copied, and numbers that mean nothing: each call on a buffer, with what it refuses. Prints `ok`, or the
  * line of the first answer that is not as include/iwarp.h says, with status 1. */
 #include "host.h"
+#include "checks.h"
 
 enum { DOMAIN = 1, STREAM = 0, LENGTH = 100 };
 
 static struct iwarp end = IWARP_CLOSED;
 static struct iwarp_buffer buffer = IWARP_NO_BUFFER, none = IWARP_NO_BUFFER;
 static uint8_t *first; /* the address of the buffer's octets: it stays the same, whoever has them */
-
-/* Ends the program if an answer is not as it should be. */
-#define CHECK(answer)                          \
-    do {                                       \
-        if (!(answer)) {                       \
-            printf("line %d: %s\n", __LINE__, #answer); \
-            exit(1);                           \
-        }                                      \
-    } while (0)
 
 /* Whether the buffer has its octets, or none. */
 static int has(size_t n) {

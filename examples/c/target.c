@@ -23,7 +23,7 @@ enum { CONNECTION_MIB = 2, MOST_MIB = 1 << 20 };
 struct connection {
     struct carried carried; /* its stream and its socket, first of all; the socket is -1 if the place is free */
     uint32_t domain;
-    struct iwarp_buffer region; /* the octets of its region, before it is registered and after it is deregistered */
+    struct iwarp_memory region; /* its region's memory, which is the program's own; none while it is registered */
     int registered;
     uint32_t stag;
     uint32_t waits_for; /* EPOLLIN or EPOLLOUT */
@@ -142,7 +142,14 @@ static int32_t offer(struct connection *connection) {
     registration.stream = connection->carried.stream;
     registration.rights = IWARP_WRITE;
     registration.drawn = random_bits();
-    return iwarp_register_buffer_as(&end, &registration, &connection->region, &connection->stag);
+    return iwarp_register_memory(&end, &registration, &connection->region, &connection->stag);
+}
+
+/* Zeroes, since the target sends back what its peer has not written too. */
+static int32_t make_region(struct connection *connection) {
+    connection->region.at = calloc(REGION, 1);
+    connection->region.len = connection->region.at ? REGION : 0;
+    return connection->region.at ? IWARP_OK : IWARP_NO_MEMORY;
 }
 
 /* Makes what a stream needs: a receive buffer, unless there is a pool, and a region. */
@@ -150,7 +157,7 @@ static int32_t equip(struct connection *connection) {
     uint32_t stream = connection->carried.stream;
     int32_t code = pooled ? IWARP_OK : iwarp_post_recv(&end, stream, BUFFER);
     if (code == IWARP_OK) code = iwarp_buffer_new(0, &connection->carried.frames);
-    if (code == IWARP_OK) code = iwarp_buffer_new(REGION, &connection->region);
+    if (code == IWARP_OK) code = make_region(connection);
     if (code == IWARP_OK) code = offer(connection);
     connection->registered = code == IWARP_OK;
     return code;
@@ -258,8 +265,9 @@ static void finish(struct connection *connection) {
         fprintf(stderr, "stream %u can't be closed\n", (unsigned)connection->carried.stream);
         exit(1);
     }
-    if (connection->registered) must(iwarp_deregister_buffer(&end, connection->stag, &connection->region), "deregister_buffer");
-    iwarp_buffer_free(&connection->region);
+    if (connection->registered) must(iwarp_deregister_memory(&end, connection->stag, &connection->region), "deregister_memory");
+    free(connection->region.at);
+    connection->region.at = NULL;
     leave(connection);
 }
 

@@ -10,7 +10,8 @@ ghost use Rattle.iw_endpoint.specs.Endpoint.{emission_at, emitted_at, after_emit
 ghost use Rattle.iw_handle.specs.Events.{emitted_of, IsFrame};
 ghost use Rattle.iw_handle.specs.Filling.{FillsAt, TakesMemoryForReadsAt};
 ghost use Rattle.iw_handle.specs.Refusals.{buffer_reason, code_of, refusal_code};
-ghost use Rattle.iw_handle.specs.Regions.{region_refusal, refusal_to_register};
+ghost use Rattle.iw_handle.specs.Keeping.{refusal_to_move};
+ghost use Rattle.iw_handle.specs.Regions.{refusal_to_register};
 ghost use Rattle.iw_handle.specs.State.{called_on, refusal_with, changed, told_in, shown_in};
 ghost use Rattle.iw_handle.specs.Streams.{refusal_to_go_on};
 ghost use Rattle.iw_handle.specs.Words.{domain_number, rights_of};
@@ -128,7 +129,7 @@ pub extern "C" fn iwarp_deregister_buffer(
     buffer: &mut Buffer,
 ) -> i32
     ensures code { result ≡ pos (code_of (refusal_with handle.old.state buffer.old.state
-        (λ e octets. region_refusal e (stag_of stag)))) }
+        (λ e octets. refusal_to_move e (stag_of stag)))) }
     ensures octets { result ≡ pos 0 → buffer.new.state ≡ shown_in handle.old.state (λ e. octets_of e (stag_of stag)) }
     ensures ok { result ≡ pos 0 → handle.new.state ≡ changed handle.old.state (λ e. deregistered e (stag_of stag)) }
     ensures err { result ≢ pos 0 → handle.new.state ≡ handle.old.state }

@@ -7,6 +7,7 @@
 
 mod buffers;
 mod described;
+mod keeping;
 mod lending;
 mod limiting;
 mod octets;
@@ -36,6 +37,7 @@ pub use buffers::{
 };
 pub use described::{iwarp_post, iwarp_post_buffer};
 use iw_handle::{Handle, code, domain_number};
+pub use keeping::{iwarp_deregister_memory, iwarp_register_memory};
 pub use lending::{iwarp_came, iwarp_room};
 pub use limiting::{iwarp_register_buffer_for, iwarp_register_for};
 pub use octets::{

@@ -83,6 +83,8 @@ pub const NOT_LENT: u32 = 39;
 
 pub const BAD_STRUCT: u32 = 40;
 
+pub const OTHER_MEMORY: u32 = 41;
+
 // What a region may be used for.
 pub const WRITE: u32 = 1;
 

@@ -64,6 +64,8 @@ pub fn text_of(code: u32) -> &'static [u8]
         numbers::NOT_LENT => b"no place is lent for so many octets: call iwarp_room right before\0",
         numbers::BAD_STRUCT =>
             b"a struct's size is less than that of its first version, or the call takes no such kind\0",
+        numbers::OTHER_MEMORY =>
+            b"the region's octets are in memory of the other kind: another call hands them back\0",
         _ => b"no code has this number\0",
     }
 }

@@ -11,5 +11,6 @@ pub mod Copied
 pub mod Emptying
 pub mod Settling
 pub mod Drawing
+pub mod Keeping
 pub mod Sharing
 pub mod Shares

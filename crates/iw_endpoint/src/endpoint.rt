@@ -5,6 +5,7 @@ ghost use Rattle.std.specs.Result.{result_err, result_ok};
 ghost use Rattle.std.specs.Option.{option_map};
 ghost use Rattle.std.specs.Borrow.{sem};
 ghost use Rattle.std.specs.Io.KnownBytes.{Keeps};
+ghost use Rattle.iw_memory.specs.Forms.{own_refusal};
 ghost use Rattle.iw_memory.specs.Region.{IsWithinLimits};
 ghost use Rattle.iw_memory.specs.Table.{region_at, register_refusal, next_stag};
 ghost use Rattle.iw_ranges.specs.Arrived.{BringsOctets};
@@ -17,6 +18,7 @@ ghost use Rattle.iw_endpoint.specs.Endpoint.{pool_refusal_of};
 
 mod closing;
 mod drawing;
+mod keeping;
 mod lending;
 mod limiting;
 mod next;
@@ -30,7 +32,8 @@ use crate::scrap::Scrap;
 use crate::streams::Streams;
 use bytes::Bytes;
 use iw_memory::{
-    DomainRefusal, Facts, Memory, NoRegion, RegisterRefusal, Rights, Stag, StoreRefusal,
+    DeregisterRefusal, DomainRefusal, Facts, Memory, NoRegion, RegisterRefusal, Rights, Stag,
+    StoreRefusal,
 };
 use iw_octets::Octets;
 use iw_stream::{
@@ -143,11 +146,12 @@ impl<A: Allocator> Endpoint<A> {
         self.memory.register(pd, base, octets, rights)
     }
 
-    /// Removes a region, valid or not, and returns its octets. From then on its STag names no region. An `Err` changes
-    /// nothing.
-    pub fn deregister(&mut self, stag: Stag) -> Result<Vec<u8, A>, NoRegion>
-        ensures octets { option_map (λ v. v.items) (result_ok result) ≡ octets_of self.old stag }
-        ensures after { self.new ≡ deregistered self.old stag }
+    /// Removes a region, valid or not, and returns the vector that has its octets. From then on its STag names no region.
+    /// `OtherMemory`: a program keeps them ([`Endpoint::deregister_kept`]). An `Err` changes nothing.
+    pub fn deregister(&mut self, stag: Stag) -> Result<Vec<u8, A>, DeregisterRefusal>
+        ensures refused { result_err result ≡ own_refusal self.old.table stag }
+        ensures octets { IfOk result (λ v. Some v.items ≡ octets_of self.old stag) }
+        ensures ok { OnOk result (self.new ≡ deregistered self.old stag) }
         ensures err { OnErr result (self.new ≡ self.old) }
     {
         self.memory.deregister(stag)

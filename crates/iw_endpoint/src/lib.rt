@@ -116,8 +116,10 @@ mod scrap;
 mod streams;
 
 pub use endpoint::Endpoint;
+pub use iw_kept::{Kept, Lodged, RegionOctets};
 pub use iw_memory::{
-    DomainRefusal, Facts, Memory, NoRegion, RegisterRefusal, Right, Rights, Stag, StoreRefusal,
+    DeregisterRefusal, DomainRefusal, Facts, Memory, NoRegion, RegisterRefusal, Right, Rights,
+    Stag, StoreRefusal,
 };
 pub use iw_octets::{Fault, MAX_PLACE, MAX_PRIVATE, Message, Octets, ReadRequest};
 pub use iw_stream::{

@@ -57,6 +57,11 @@ pub chosen : (P : Option Refusal → Type 0) (b : Bool) (x y : Option Refusal) �
 chosen P true x y is holds = holds
 chosen P false x y is holds = absurd (true≢false (sym is))
 
+-- and of the other one
+pub left_over : (P : Option Refusal → Type 0) (b : Bool) (x y : Option Refusal) → b ≡ false → P y → P (if b then x else y)
+left_over P false x y is holds = holds
+left_over P true x y is holds = absurd (true≢false is)
+
 pub err_refused : (A : Type 0) (o : Option Refusal) (y : Refusal) → IfSome o (λ r. y ≡ r) → IfSome o (λ r. ◌≡◌ {A = Result A Refusal} (Err y) (Err r))
 err_refused A None y is = tt
 err_refused A (Some z) y is = ap Err is

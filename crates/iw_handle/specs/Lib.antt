@@ -13,6 +13,7 @@ pub mod Limiting
 pub mod Sending
 pub mod Sized
 pub mod Registering
+pub mod Keeping
 pub mod Sharing
 pub mod Filling
 pub mod Elsewhere

@@ -2,6 +2,8 @@
 use Rattle.std.specs.Prelude.{◌≡◌, ℕ, Option, None, Some}
 use Rattle.iw_buffer.specs.declared.refusal.BufferRefusal.{BufferRefusal}
 use Rattle.iw_buffer.specs.declared.refusal.BufferRefusal.TheVariants as buffer
+use Rattle.iw_memory.specs.declared.refusal.DeregisterRefusal.{DeregisterRefusal}
+use Rattle.iw_memory.specs.declared.refusal.DeregisterRefusal.TheVariants as deregister
 use Rattle.iw_memory.specs.declared.refusal.DomainRefusal.{DomainRefusal}
 use Rattle.iw_memory.specs.declared.refusal.DomainRefusal.TheVariants as domain
 use Rattle.iw_memory.specs.declared.refusal.RegisterRefusal.{RegisterRefusal}
@@ -60,6 +62,10 @@ register_reason register.DomainFull = DomainFull
 register_reason register.TooLong = RegionTooLong
 register_reason register.BaseWrap = BaseWrap
 register_reason register.NoMemory = NoMemory
+
+abbrev pub deregister_reason : DeregisterRefusal → Refusal
+deregister_reason deregister.NoRegion = NoRegion
+deregister_reason deregister.OtherMemory = refusals.OtherMemory
 
 abbrev pub limit_reason : CallRefusal LimitRefusal → Refusal
 limit_reason call.NoSuchStream = NoSuchStream
@@ -189,6 +195,7 @@ refusal_code refusals.NotAtRest = numbers.NOT_AT_REST
 refusal_code refusals.WindowFull = numbers.WINDOW_FULL
 refusal_code refusals.NotLent = numbers.NOT_LENT
 refusal_code refusals.BadStruct = numbers.BAD_STRUCT
+refusal_code refusals.OtherMemory = numbers.OTHER_MEMORY
 
 -- 0 if the call was not refused
 abbrev pub code_of : Option Refusal → ℕ

@@ -6,14 +6,15 @@ ghost use Rattle.iw_endpoint.specs.Endpoint.{registered, deregistered, octets_of
 ghost use Rattle.iw_endpoint.specs.Endpoint.{emission_at, emitted_at, after_emit};
 ghost use Rattle.iw_handle.specs.Events.{emitted_of, IsFrame};
 ghost use Rattle.iw_handle.specs.Filling.{TakesMemoryForReads, TakesMemoryForReadsAt};
-ghost use Rattle.iw_handle.specs.Regions.{region_refusal, refusal_to_register};
+ghost use Rattle.iw_handle.specs.Keeping.{refusal_to_move};
+ghost use Rattle.iw_handle.specs.Regions.{refusal_to_register};
 ghost use Rattle.iw_handle.specs.State.{called_on, refusal_with, changed, told_in, shown_in};
 ghost use Rattle.iw_handle.specs.Streams.{refusal_to_go_on};
 ghost use Rattle.iw_handle.specs.Words.{rights_of};
 
 use crate::event::{Emitted, emitted_of};
 use crate::handle::Handle;
-use crate::refusal::{Refusal, register_reason};
+use crate::refusal::{Refusal, deregister_reason, register_reason};
 use crate::words::{check_bits, rights_of};
 use iw_buffer::Buffer;
 use iw_endpoint::{CallRefusal, Endpoint, MAX_PLACE, Stag};
@@ -56,7 +57,7 @@ fn deregister_these(
     stag: Stag,
     octets: &mut Vec<u8>,
 ) -> Result<(), Refusal>
-    ensures refused { result_err result ≡ region_refusal endpoint.old stag }
+    ensures refused { result_err result ≡ refusal_to_move endpoint.old stag }
     ensures octets { OnOk result (Some octets.new.items ≡ octets_of endpoint.old stag) }
     ensures ok { OnOk result (endpoint.new ≡ deregistered endpoint.old stag) }
     ensures err { OnErr result (endpoint.new ≡ endpoint.old) }
@@ -67,7 +68,7 @@ fn deregister_these(
             *octets = taken;
             Ok(())
         }
-        Err(_) => Err(Refusal::NoRegion),
+        Err(refusal) => Err(deregister_reason(refusal)),
     }
 }
 
@@ -140,7 +141,8 @@ impl Handle {
     }
 
     /// Deregisters a region, valid or not, and moves its octets into the buffer: nothing is copied, and the octets that the
-    /// buffer had are freed. From then on the STag names nothing. An `Err` changes nothing.
+    /// buffer had are freed. From then on the STag names nothing. `OtherMemory`: the program keeps the region's memory
+    /// ([`Handle::deregister_memory`]). An `Err` changes nothing.
     pub fn deregister_buffer(
         &mut self,
         alloc: Global,
@@ -148,7 +150,7 @@ impl Handle {
         buffer: &mut Buffer,
     ) -> Result<(), Refusal>
         ensures refused { result_err result ≡ refusal_with self.old.state buffer.old.state
-            (λ e octets. region_refusal e stag) }
+            (λ e octets. refusal_to_move e stag) }
         ensures octets { OnOk result (buffer.new.state ≡ shown_in self.old.state (λ e. octets_of e stag)) }
         ensures ok { OnOk result (self.new.state ≡ changed self.old.state (λ e. deregistered e stag)) }
         ensures err { OnErr result (self.new.state ≡ self.old.state) }

@@ -11,6 +11,7 @@ mod filling;
 mod handle;
 mod handle_opening;
 mod held;
+mod keeping;
 mod laws;
 mod lending;
 mod limiting;

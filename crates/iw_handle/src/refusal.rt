@@ -2,15 +2,15 @@
 ghost use Rattle.std.specs.Prelude.{◌≡◌, ◌<◌, ◌^◌, ◌↔◌, None, pos};
 ghost use Rattle.iw_handle.specs.Refusals.{domain_reason, register_reason, store_reason, code_of, refusal_code};
 ghost use Rattle.iw_handle.specs.Refusals.{open_reason, answer_reason, post_reason, recv_reason, first_reason, size_reason};
-ghost use Rattle.iw_handle.specs.Refusals.{next_reason, close_reason, limit_reason};
+ghost use Rattle.iw_handle.specs.Refusals.{next_reason, close_reason, limit_reason, deregister_reason};
 ghost use Rattle.iw_handle.specs.Refusals.{share_reason, pool_reason, take_reason, open_shared_reason, buffer_reason};
 
 use iw_buffer::BufferRefusal;
 use iw_codes::numbers;
 use iw_endpoint::{
-    AnswerRefusal, CallRefusal, DomainRefusal, FirstRefusal, LimitRefusal, NotAtRest,
-    OpenNextRefusal, OpenRefusal, OpenSharedRefusal, PoolRefusal, PostRefusal, RecvRefusal,
-    RegisterRefusal, ShareRefusal, SizeRefusal, StoreRefusal, TakeRefusal,
+    AnswerRefusal, CallRefusal, DeregisterRefusal, DomainRefusal, FirstRefusal, LimitRefusal,
+    NotAtRest, OpenNextRefusal, OpenRefusal, OpenSharedRefusal, PoolRefusal, PostRefusal,
+    RecvRefusal, RegisterRefusal, ShareRefusal, SizeRefusal, StoreRefusal, TakeRefusal,
 };
 use thiserror::Error;
 
@@ -137,6 +137,9 @@ pub enum Refusal {
     /// A struct is shorter than that of the first version, or has a kind that the call does not take.
     #[error("a struct's size is less than that of its first version, or the call takes no such kind")]
     BadStruct,
+    /// The region's octets are in memory that the program keeps, or are not: another call hands them back.
+    #[error("the region's octets are in memory of the other kind: another call hands them back")]
+    OtherMemory,
 }
 
 pub(crate) fn domain_reason(refusal: DomainRefusal) -> Refusal
@@ -158,6 +161,15 @@ pub(crate) fn register_reason(refusal: RegisterRefusal) -> Refusal
         RegisterRefusal::TooLong => Refusal::RegionTooLong,
         RegisterRefusal::BaseWrap => Refusal::BaseWrap,
         RegisterRefusal::NoMemory => Refusal::NoMemory,
+    }
+}
+
+pub(crate) fn deregister_reason(refusal: DeregisterRefusal) -> Refusal
+    ensures { result ≡ deregister_reason refusal }
+{
+    match refusal {
+        DeregisterRefusal::NoRegion => Refusal::NoRegion,
+        DeregisterRefusal::OtherMemory => Refusal::OtherMemory,
     }
 }
 
@@ -366,6 +378,7 @@ fn number(refusal: Refusal) -> u32
         Refusal::WindowFull => numbers::WINDOW_FULL,
         Refusal::NotLent => numbers::NOT_LENT,
         Refusal::BadStruct => numbers::BAD_STRUCT,
+        Refusal::OtherMemory => numbers::OTHER_MEMORY,
     }
 }
 

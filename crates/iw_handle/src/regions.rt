@@ -77,7 +77,7 @@ fn take_region(
     ensures err { OnErr result (endpoint.new ≡ endpoint.old) }
 {
     copy_region(endpoint, stag, out, len)?;
-    let _ = endpoint.deregister(stag);
+    let _ = endpoint.take_region(stag);
     Ok(())
 }
 
@@ -193,7 +193,7 @@ impl Handle {
         let Some(mut held) = self.take(alloc) else {
             return Err(Refusal::Closed);
         };
-        let done = held.endpoint.deregister(stag);
+        let done = held.endpoint.take_region(stag);
         self.put(held);
         match done {
             Ok(_) => Ok(()),

@@ -27,7 +27,7 @@ fn check_flags(flags: u64) -> Result<(), Refusal>
     }
 }
 
-fn check_registration(registration: &Registration) -> Result<(), Refusal>
+pub(crate) fn check_registration(registration: &Registration) -> Result<(), Refusal>
     ensures { result_err result ≡ registration_refusal registration.now }
 {
     check_size(REGISTRATION_SIZE, registration.size)?;
@@ -35,7 +35,7 @@ fn check_registration(registration: &Registration) -> Result<(), Refusal>
     check_bits(16, registration.rights)
 }
 
-fn has_flag(flags: u64, flag: u32) -> bool
+pub(crate) fn has_flag(flags: u64, flag: u32) -> bool
     requires { 0 < flag }
     ensures { result ≡ has_bit flags flag }
 {

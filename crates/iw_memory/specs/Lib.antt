@@ -2,6 +2,7 @@ pub mod Region
 pub mod RightsText
 pub mod Part
 pub mod Table
+pub mod Forms
 pub mod Laws
 pub mod Held
 pub mod Lending

@@ -15,10 +15,11 @@ pub record Region : Type 0 where
   pub rights : Rights
   pub bound : Option ℕ  -- the stream that it is limited to, if it is limited to one
   pub valid : Bool
+  pub kept : Bool  -- a program keeps the memory of its octets
 
--- a region as it is registered, for any stream of its domain
+-- a region of a vector's octets as it is registered, for any stream of its domain
 abbrev pub new_region : ℕ → List ℕ → Rights → Region
-new_region base octets rights = record { base = base; octets = octets; rights = rights; bound = None; valid = true }
+new_region base octets rights = record { base = base; octets = octets; rights = rights; bound = None; valid = true; kept = false }
 
 -- the same, limited to this stream
 abbrev pub bound_region : ℕ → ℕ → List ℕ → Rights → Region

@@ -33,6 +33,8 @@ pub use laws::{
 };
 pub use memory::Memory;
 pub use peer::Peer;
-pub use refusal::{Deny, DomainRefusal, InvalidateDeny, NoRegion, RegisterRefusal, StoreRefusal};
+pub use refusal::{
+    Deny, DeregisterRefusal, DomainRefusal, InvalidateDeny, NoRegion, RegisterRefusal, StoreRefusal,
+};
 pub use region::Facts;
 pub use rights::{Right, Rights};

@@ -4,16 +4,19 @@ ghost use Rattle.std.specs.Prelude.{is_ok, IfOk, IfErr, IsErr, OnOk, OnErr};
 ghost use Rattle.std.specs.Result.{result_err, result_ok};
 ghost use Rattle.std.specs.Option.{option_map};
 ghost use Rattle.std.specs.Borrow.{sem};
+ghost use Rattle.iw_kept.specs.Octets.{octets_of, is_kept};
+ghost use Rattle.iw_memory.specs.Forms.{region_of, own_refusal, kept_refusal};
 
 use crate::domain_slots::MAX_SLOTS;
 use crate::peer::Peer;
 use crate::refusal::{
-    Deny, DomainRefusal, InvalidateDeny, NoRegion, RegisterRefusal, StoreRefusal,
+    Deny, DeregisterRefusal, DomainRefusal, InvalidateDeny, NoRegion, RegisterRefusal, StoreRefusal,
 };
 use crate::region::{Facts, Stored};
 use crate::retiring::{is_limited, retire_all};
 use crate::rights::{Right, Rights};
 use crate::slots::{Domains, Slot};
+use iw_kept::{Lodged, RegionOctets, own_back};
 use iw_octets::{MAX_OCTETS, Stag};
 use slab::Slab;
 use std::alloc::{Allocator, Global};
@@ -120,7 +123,7 @@ impl<A: Allocator> Memory<A> {
         ensures stag { IfOk result (λ stag. stag ≡ next_stag self.old pd) }
         ensures ok { OnOk result (self.new ≡ registered self.old pd (new_region base octets.items rights)) }
     {
-        self.register_within(pd, None, base, octets, rights)
+        own_back(self.register_octets(pd, None, base, RegionOctets::Own(octets), rights))
     }
 
     /// Registers octets as [`register`](Self::register) does, for one stream of the domain alone (RFC 5042 6.1.1). To
@@ -145,7 +148,7 @@ impl<A: Allocator> Memory<A> {
         ensures stag { IfOk result (λ stag. stag ≡ next_stag self.old pd) }
         ensures ok { OnOk result (self.new ≡ registered self.old pd (bound_region stream base octets.items rights)) }
     {
-        self.register_within(pd, Some(stream), base, octets, rights)
+        own_back(self.register_octets(pd, Some(stream), base, RegionOctets::Own(octets), rights))
     }
 
     /// Registers octets as [`register`](Self::register) does, under an STag that a number draws, so that no peer guesses it
@@ -175,7 +178,7 @@ impl<A: Allocator> Memory<A> {
         ensures stag { IfOk result (λ stag. stag ≡ drawn_stag self.old pd drawn) }
         ensures ok { OnOk result (self.new ≡ registered_drawn self.old pd drawn (new_region base octets.items rights)) }
     {
-        self.draw_within(pd, None, base, octets, rights, drawn)
+        own_back(self.draw_octets(pd, None, base, RegionOctets::Own(octets), rights, drawn))
     }
 
     /// Registers octets as [`register_drawn`](Self::register_drawn) does, for one stream of the domain alone, as
@@ -201,27 +204,34 @@ impl<A: Allocator> Memory<A> {
         ensures stag { IfOk result (λ stag. stag ≡ drawn_stag self.old pd drawn) }
         ensures ok { OnOk result (self.new ≡ registered_drawn self.old pd drawn (bound_region stream base octets.items rights)) }
     {
-        self.draw_within(pd, Some(stream), base, octets, rights, drawn)
+        own_back(self.draw_octets(
+            pd,
+            Some(stream),
+            base,
+            RegionOctets::Own(octets),
+            rights,
+            drawn,
+        ))
     }
 
-    // Registers octets under the STag that is drawn, for this stream of the domain, or for all of them.
-    fn draw_within(
+    /// Registers octets in either form under the STag that is drawn, for this stream of the domain, or for all of them.
+    pub fn draw_octets(
         &mut self,
         pd: u8,
         bound: Option<u32>,
         base: u64,
-        octets: Vec<u8, A>,
+        octets: RegionOctets<A>,
         rights: Rights,
         drawn: u32,
-    ) -> Result<Stag, (RegisterRefusal, Vec<u8, A>)>
-        ensures refused { IfSome (register_refusal self.old pd base (length octets.items))
+    ) -> Result<Stag, (RegisterRefusal, RegionOctets<A>)>
+        ensures refused { IfSome (register_refusal self.old pd base (length (octets_of octets)))
             (λ refusal. IfErr result (λ e. e.0 ≡ refusal) × IsErr result) }
-        ensures memory { IfNone (register_refusal self.old pd base (length octets.items))
+        ensures memory { IfNone (register_refusal self.old pd base (length (octets_of octets)))
             (IfErr result (λ e. e.0 ≡ RegisterRefusal.NoMemory)) }
         ensures back { IfErr result (λ e. e.1 ≡ octets) }
         ensures err { OnErr result (self.new ≡ self.old) }
         ensures stag { IfOk result (λ stag. stag ≡ drawn_stag self.old pd drawn) }
-        ensures ok { OnOk result (self.new ≡ registered_drawn self.old pd drawn (record (new_region base octets.items rights) { bound = bound })) }
+        ensures ok { OnOk result (self.new ≡ registered_drawn self.old pd drawn (region_of base octets rights bound)) }
     {
         match self.drawn_stag(pd, base, octets.len(), drawn) {
             Err(refusal) => Err((refusal, octets)),
@@ -247,23 +257,23 @@ impl<A: Allocator> Memory<A> {
         }
     }
 
-    // Registers octets for this stream of the domain, or for all of them.
-    fn register_within(
+    /// Registers octets in either form, for this stream of the domain, or for all of them.
+    pub fn register_octets(
         &mut self,
         pd: u8,
         bound: Option<u32>,
         base: u64,
-        octets: Vec<u8, A>,
+        octets: RegionOctets<A>,
         rights: Rights,
-    ) -> Result<Stag, (RegisterRefusal, Vec<u8, A>)>
-        ensures refused { IfSome (register_refusal self.old pd base (length octets.items))
+    ) -> Result<Stag, (RegisterRefusal, RegionOctets<A>)>
+        ensures refused { IfSome (register_refusal self.old pd base (length (octets_of octets)))
             (λ refusal. IfErr result (λ e. e.0 ≡ refusal) × IsErr result) }
-        ensures memory { IfNone (register_refusal self.old pd base (length octets.items))
+        ensures memory { IfNone (register_refusal self.old pd base (length (octets_of octets)))
             (IfErr result (λ e. e.0 ≡ RegisterRefusal.NoMemory)) }
         ensures back { IfErr result (λ e. e.1 ≡ octets) }
         ensures err { OnErr result (self.new ≡ self.old) }
         ensures stag { IfOk result (λ stag. stag ≡ next_stag self.old pd) }
-        ensures ok { OnOk result (self.new ≡ registered self.old pd (record (new_region base octets.items rights) { bound = bound })) }
+        ensures ok { OnOk result (self.new ≡ registered self.old pd (region_of base octets rights bound)) }
     {
         match self.next_stag(pd, base, octets.len()) {
             Err(refusal) => Err((refusal, octets)),
@@ -315,13 +325,13 @@ impl<A: Allocator> Memory<A> {
         stag: Stag,
         bound: Option<u32>,
         base: u64,
-        octets: Vec<u8, A>,
+        octets: RegionOctets<A>,
         rights: Rights,
-    ) -> Result<Stag, (RegisterRefusal, Vec<u8, A>)>
+    ) -> Result<Stag, (RegisterRefusal, RegionOctets<A>)>
         requires vacant { IsVacant self.old stag }
-        requires limits { IsWithinLimits base (length octets.items) }
+        requires limits { IsWithinLimits base (length (octets_of octets)) }
         ensures stag { IfOk result (λ given. given ≡ stag) }
-        ensures ok { OnOk result (self.new ≡ registered_at self.old stag (record (new_region base octets.items rights) { bound = bound })) }
+        ensures ok { OnOk result (self.new ≡ registered_at self.old stag (region_of base octets rights bound)) }
         ensures memory { IfErr result (λ e. e.0 ≡ RegisterRefusal.NoMemory) }
         ensures back { IfErr result (λ e. e.1 ≡ octets) }
         ensures err { OnErr result (self.new ≡ self.old) }
@@ -353,10 +363,12 @@ impl<A: Allocator> Memory<A> {
         Ok(stag)
     }
 
-    /// Takes a region out, valid or not, and gives its octets back. An `Err` changes nothing.
-    pub fn deregister(&mut self, stag: Stag) -> Result<Vec<u8, A>, NoRegion>
-        ensures octets { option_map (λ v. v.items) (result_ok result)
+    /// Takes a region out, valid or not, and gives its octets back, in whichever memory they are. An `Err` changes nothing.
+    pub fn take_region(&mut self, stag: Stag) -> Result<RegionOctets<A>, NoRegion>
+        ensures octets { option_map (λ o. octets_of o) (result_ok result)
             ≡ option_map (λ r. r.octets) (region_at self.old stag) }
+        ensures kept { option_map (λ o. is_kept o) (result_ok result)
+            ≡ option_map (λ r. r.kept) (region_at self.old stag) }
         ensures after { self.new ≡ deregistered self.old stag }
         ensures err { OnErr result (self.new ≡ self.old) }
     {
@@ -371,6 +383,44 @@ impl<A: Allocator> Memory<A> {
         self.domains
             .set_slot(stag.domain(), stag.slot() as usize, free);
         Ok(stored.into_octets())
+    }
+
+    /// Takes a region out, valid or not, and gives the vector back that has its octets. `OtherMemory`: a program keeps them
+    /// ([`deregister_kept`](Self::deregister_kept)). An `Err` changes nothing.
+    pub fn deregister(&mut self, stag: Stag) -> Result<Vec<u8, A>, DeregisterRefusal>
+        ensures refused { result_err result ≡ own_refusal self.old stag }
+        ensures octets { IfOk result (λ v. Some v.items ≡ option_map (λ r. r.octets) (region_at self.old stag)) }
+        ensures ok { OnOk result (self.new ≡ deregistered self.old stag) }
+        ensures err { OnErr result (self.new ≡ self.old) }
+    {
+        match self.is_kept(stag) {
+            Some(false) => {}
+            Some(true) => return Err(DeregisterRefusal::OtherMemory),
+            None => return Err(DeregisterRefusal::NoRegion),
+        }
+        match self.take_region(stag) {
+            Ok(RegionOctets::Own(octets)) => Ok(octets),
+            _ => unreachable!(),
+        }
+    }
+
+    /// Takes a region out, valid or not, and gives the memory back that has its octets and that a program keeps.
+    /// `OtherMemory`: they are a vector's ([`deregister`](Self::deregister)). An `Err` changes nothing.
+    pub fn deregister_kept(&mut self, stag: Stag) -> Result<Vec<u8, Lodged>, DeregisterRefusal>
+        ensures refused { result_err result ≡ kept_refusal self.old stag }
+        ensures octets { IfOk result (λ v. Some v.items ≡ option_map (λ r. r.octets) (region_at self.old stag)) }
+        ensures ok { OnOk result (self.new ≡ deregistered self.old stag) }
+        ensures err { OnErr result (self.new ≡ self.old) }
+    {
+        match self.is_kept(stag) {
+            Some(true) => {}
+            Some(false) => return Err(DeregisterRefusal::OtherMemory),
+            None => return Err(DeregisterRefusal::NoRegion),
+        }
+        match self.take_region(stag) {
+            Ok(RegionOctets::Kept(octets)) => Ok(octets),
+            _ => unreachable!(),
+        }
     }
 
     /// Ends the use of a region by peers. It stays registered, and keeps its slot; an invalid region stays as it is.
@@ -462,6 +512,14 @@ impl<A: Allocator> Memory<A> {
         })
     }
 
+    /// Whether a program keeps the memory of a region's octets. `None` if the STag names none.
+    pub fn is_kept(&self, stag: Stag) -> Option<bool>
+        ensures { result ≡ option_map (λ r. r.kept) (region_at self.now stag) }
+    {
+        let stored = self.stored(stag)?;
+        Some(stored.is_kept())
+    }
+
     /// A region's octets, for its owner. `None` if the STag names none.
     pub fn local(&self, stag: Stag) -> Option<&[u8]>
         ensures { option_copied result ≡ option_map (λ r. r.octets) (region_at self.now stag) }
@@ -532,7 +590,7 @@ impl<A: Allocator> Memory<A> {
             return Ok(&[]);
         }
         let (stored, at) = self.admit(peer, stag, to, n, right)?;
-        Ok(&stored.octets[at..at + n])
+        Ok(&stored.octets.as_slice()[at..at + n])
     }
 
     /// [`check_for`](Self::check_for) a peer in domain `pd` whose stream has no number.

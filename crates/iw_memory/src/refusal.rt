@@ -81,6 +81,17 @@ pub enum InvalidateDeny {
     NotAllowed,
 }
 
+/// Why a region's octets are not handed back as they are wanted: as a vector, or as memory that a program keeps.
+#[derive(Clone, Copy, Debug, PartialEq, Eq, Error)]
+pub enum DeregisterRefusal {
+    /// The STag names no region.
+    #[error("the STag names no region")]
+    NoRegion,
+    /// The octets are in memory of the other kind.
+    #[error("the region's octets are in memory of the other kind")]
+    OtherMemory,
+}
+
 /// The STag names no region.
 #[derive(Clone, Copy, Debug, PartialEq, Eq, Error)]
 #[error("the STag names no region")]

@@ -3,9 +3,11 @@ ghost use Rattle.std.specs.Result.{result_err};
 ghost use Rattle.std.specs.Borrow.{sem};
 ghost use Rattle.iw_memory.specs.Region.{region_denial_for, is_in_scope, is_bound_to, retired_region, octets_from, Spans};
 ghost use Rattle.iw_memory.specs.Lending.{LendsOctets};
+ghost use Rattle.iw_kept.specs.Octets.{octets_of, is_kept};
 
 use crate::refusal::Deny;
 use crate::rights::{Right, Rights};
+use iw_kept::RegionOctets;
 use std::alloc::{Allocator, Global};
 use std::marker::Model;
 
@@ -30,7 +32,7 @@ pub(crate) struct Stored<A: Allocator = Global> {
     pub(crate) domain: u8,
     pub(crate) slot: u16,
     pub(crate) base: u64,
-    pub(crate) octets: Vec<u8, A>,
+    pub(crate) octets: RegionOctets<A>,
     pub(crate) rights: Rights,
     pub(crate) bound: Option<u32>,
     pub(crate) valid: bool,
@@ -38,13 +40,14 @@ pub(crate) struct Stored<A: Allocator = Global> {
 
 impl<A: Allocator> Model for Stored<A> {
     ghost use Rattle.iw_memory.specs.Held.{Held};
+    ghost use Rattle.iw_kept.specs.Octets.{octets_of, is_kept};
 
     ghost Value = { Held };
 
     ghost view = { λ s. record {
       domain = s.domain;
       slot = s.slot;
-      region = record { base = s.base; octets = s.octets.items; rights = s.rights; bound = s.bound; valid = s.valid };
+      region = record { base = s.base; octets = octets_of s.octets; rights = s.rights; bound = s.bound; valid = s.valid; kept = is_kept s.octets };
     } };
 }
 
@@ -127,14 +130,23 @@ impl<A: Allocator> Stored<A> {
         at <= len as u64 && n <= len - at as usize
     }
 
+    /// Whether a program keeps the region's octets.
+    pub(crate) fn is_kept(&self) -> bool
+        ensures { result ≡ self.now.region.kept }
+    {
+        self.octets.is_kept()
+    }
+
     /// The region's octets, once it is stored no longer.
-    pub(crate) fn into_octets(self) -> Vec<u8, A>
-        ensures { result.items ≡ self.region.octets }
+    pub(crate) fn into_octets(self) -> RegionOctets<A>
+        ensures octets { octets_of result ≡ self.region.octets }
+        ensures kept { is_kept result ≡ self.region.kept }
     {
         self.octets
     }
 
     /// All octets, for writing.
+    #[tactic(auto, using(crate::proofs::KeptLemmas::octets_overwritten, crate::proofs::KeptLemmas::kept_overwritten))]
     pub(crate) fn octets_mut(&mut self) -> &mut [u8]
         ensures* lends { sem 𝓛 (LendsOctets A.row A.Allocator self.entry 0 result) }
         ensures value { result.now ≡ self.old.region.octets }
@@ -143,6 +155,7 @@ impl<A: Allocator> Stored<A> {
     }
 
     /// The `n` octets from `to` on, for writing.
+    #[tactic(auto, using(crate::proofs::KeptLemmas::octets_written, crate::proofs::KeptLemmas::kept_written))]
     #[inline(always)]
     pub(crate) fn part_mut(&mut self, to: u64, n: usize) -> &mut [u8]
         requires { Spans self.old.region to n }
@@ -150,6 +163,6 @@ impl<A: Allocator> Stored<A> {
         ensures value { result.now ≡ octets_from self.old.region to n }
     {
         let at = (to - self.base) as usize;
-        self.octets.slice_mut(at..at + n)
+        self.octets.part_mut(at, n)
     }
 }

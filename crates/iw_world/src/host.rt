@@ -89,7 +89,7 @@ impl<A: Allocator + Copy> Host<A> {
                 rights,
                 octets,
             } => self.register(alloc, *pd, *base, *rights, octets),
-            Call::Deregister { stag } => self.deregister(*stag),
+            Call::Deregister { stag } => self.deregister(alloc, *stag),
             Call::Invalidate { stag } => Ok(self.invalidate(*stag)),
             Call::Store { stag, to, octets } => self.store(*stag, *to, octets),
             Call::Open {
@@ -153,15 +153,15 @@ impl<A: Allocator + Copy> Host<A> {
         })
     }
 
-    fn deregister(&mut self, stag: Stag) -> Result<Act<Bytes<A>>, Failure>
+    fn deregister(&mut self, alloc: A, stag: Stag) -> Result<Act<Bytes<A>>, Failure>
         ensures rule { IfOk result (λ act. EndRule self.old.endpoint act) }
         ensures call { IfOk result (λ act. call_of act ≡ Call.Deregister stag) }
         ensures state { IfOk result (λ act. self.new ≡ end_after self.old act) }
         ensures failure { IfErr result (λ failure. failure ≡ Failure.NoMemory) }
     {
-        match self.endpoint.deregister(stag) {
+        match self.endpoint.take_region(stag) {
             Ok(octets) => {
-                let octets = Bytes::from_vec(octets)?;
+                let octets = Bytes::from_vec(octets.into_vec(alloc)?)?;
                 Ok(Act::Deregister {
                     stag,
                     answer: Ok(octets),

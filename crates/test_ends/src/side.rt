@@ -161,10 +161,10 @@ impl<'h> Side<'h> {
 
     pub(crate) fn deregister(&mut self, meter: &mut Meter<'h>, stag: Stag) -> Answer<'h> {
         meter.begin(0);
-        let answer = self.endpoint.deregister(stag);
+        let answer = self.endpoint.take_region(stag);
         meter.end(Call::Deregister, 0)?;
         let answer = match answer {
-            Ok(octets) => Ok(Bytes::from_vec(octets)?),
+            Ok(octets) => Ok(Bytes::from_vec(octets.into_vec(meter.heap())?)?),
             Err(missing) => Err(missing),
         };
         Ok(Act::Deregister { stag, answer })

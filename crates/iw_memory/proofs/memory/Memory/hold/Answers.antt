@@ -4,7 +4,7 @@ use Rattle.std.proofs.lemmas.Option.{same_Some}
 use Rattle.slab.specs.Slab.{get}
 use Rattle.iw_octets.specs.declared.stag.Stag.{Stag}
 use Rattle.iw_memory.specs.Inside.{Slots, table_of, slots_in, with_room_at, IsSound}
-use Rattle.iw_memory.specs.Region.{new_region}
+use Rattle.iw_memory.specs.Forms.{region_of}
 use Rattle.iw_memory.specs.Table.{registered_at}
 use Rattle.iw_memory.proofs.SlotLemmas.{domain_added, link_with_room, within_room, small_room}
 use Rattle.iw_memory.proofs.TableLemmas.{added_known, IsSound-same_get, IsSound-same_links, IsSound-set_slot, slots_in-sets, table_of-same_get, table_of-registered, same_after_insert, AreShared-same_get, AreShared-limited}
@@ -65,7 +65,7 @@ returns-clause-ok g c =
     let middle : IsSound c.make_room.new.self c.reserve.new.self = IsSound-same_links (IsSound-same_get c.self.invariant.sound kept) pd (with_room_at (slots_in ds pd) i) there c.in-Ok.ensures.ok (small_room (slots_in ds pd) i small (c.self.invariant.sound.few pd)) (link_with_room (slots_in ds pd) i) in
     let name : Stag = record { domain = pd; slot = i; key = c.key.result } in
     let named : name ≡ c.args.stag = λ t. record { domain = c.domain-pd.ensures t; slot = c.slot-slot.ensures t; key = c.key.ensures t } in
-    let region = record (new_region c.args.base c.args.octets.items c.args.rights) { bound = c.args.bound } in
+    let region = region_of c.args.base c.args.octets c.args.rights c.args.bound in
     table_of-registered ds c.make_room.new.self c.set_slot.new.self c.reserve.new.self c.insert_reserved-at.new.self name c.insert_reserved-at.result _
     (domain_added ds pd there) c.in-Ok.ensures.ok c.set_slot.ensures
     (same_after_insert middle c.insert_reserved-at.result pd i _ c.insert_reserved-at.ensures.was_vacant c.insert_reserved-at.ensures.updates)

@@ -3,7 +3,8 @@ use Rattle.std.proofs.Common.{Some, sym, ap, ◌∙◌}
 use Rattle.std.specs.Option.{option_map}
 use Rattle.iw_memory.specs.Region.{Region}
 use Rattle.iw_memory.proofs.TableLemmas.{region_at-none, stored_at, slot_within, deregistered-none, octets-held, table_of-taken, IsSound-taken, AreShared-removed}
-use Rattle.iw_memory.proofs.memory.Memory.deregister.Goals as goal
+use Rattle.iw_memory.proofs.KeptLemmas.{kept-held}
+use Rattle.iw_memory.proofs.memory.Memory.take_region.Goals as goal
 
 pub invariant_of-self : goal.invariant_of-self
 invariant_of-self g c = record {
@@ -19,8 +20,16 @@ returns-clause-after g c =
 
 pub returns-clause-octets : goal.returns-clause-octets
 returns-clause-octets g c =
-    ap Some c.into_octets.ensures
+    ap Some c.into_octets.ensures.octets
     ∙ octets-held c.self.inside.domains c.self.inside.regions c.args.stag c.in-Some.at c.remove-stored.result (sym c.find.ensures ∙ c.in-Some.is) c.remove-stored.ensures.value c.self.view_is
+
+pub returns-clause-kept : goal.returns-clause-kept
+returns-clause-kept g c =
+    ap Some c.into_octets.ensures.kept
+    ∙ kept-held c.self.inside.domains c.self.inside.regions c.args.stag c.in-Some.at c.remove-stored.result (sym c.find.ensures ∙ c.in-Some.is) c.remove-stored.ensures.value c.self.view_is
+
+pub returns-in_default-clause-kept : goal.returns-in_default-clause-kept
+returns-in_default-clause-kept g c = ap (option_map (λ (r : Region). r.kept)) (sym (region_at-none c.self.inside.domains c.self.inside.regions c.args.stag c.find.ensures c.in_default.is c.self.view_is))
 
 pub returns-in_default-clause-octets : goal.returns-in_default-clause-octets
 returns-in_default-clause-octets g c = ap (option_map (λ (r : Region). r.octets)) (sym (region_at-none c.self.inside.domains c.self.inside.regions c.args.stag c.find.ensures c.in_default.is c.self.view_is))
