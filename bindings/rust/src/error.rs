@@ -129,6 +129,8 @@ errors! {
     WindowFull = IWARP_WINDOW_FULL, Other;
     /// No place is lent for so many octets, or they are none.
     NotLent = IWARP_NOT_LENT, InvalidInput;
+    /// The region's octets are in memory that the program keeps, or are not.
+    OtherMemory = IWARP_OTHER_MEMORY, InvalidInput;
 }
 
 /// What the calls of this crate answer.
@@ -177,39 +179,39 @@ pub(crate) fn done_with_room(code: i32, needed: usize) -> Result<()> {
     }
 }
 
-/// A call that takes a buffer was refused, and gives it back.
+/// A call that takes a buffer, or a box of octets, was refused, and gives it back.
 #[derive(Debug)]
-pub struct Refused {
+pub struct Refused<T = Buffer> {
     /// Why.
     pub error: Error,
     /// The buffer, with its octets. It has none if [`Handle::post_send_buffer`](crate::Handle::post_send_buffer) or
     /// [`Handle::post_write_buffer`](crate::Handle::post_write_buffer) is refused with [`Error::NoMemory`] and there is no memory
     /// to move them back either: then [`Handle::fetch_sent`](crate::Handle::fetch_sent) moves them back.
-    pub buffer: Buffer,
+    pub buffer: T,
 }
 
-impl fmt::Display for Refused {
+impl<T> fmt::Display for Refused<T> {
     fn fmt(&self, f: &mut fmt::Formatter<'_>) -> fmt::Result {
         self.error.fmt(f)
     }
 }
 
-impl std::error::Error for Refused {
+impl<T: fmt::Debug> std::error::Error for Refused<T> {
     fn source(&self) -> Option<&(dyn std::error::Error + 'static)> {
         Some(&self.error)
     }
 }
 
 /// The buffer is freed.
-impl From<Refused> for Error {
-    fn from(refused: Refused) -> Self {
+impl<T> From<Refused<T>> for Error {
+    fn from(refused: Refused<T>) -> Self {
         refused.error
     }
 }
 
 /// The buffer is freed.
-impl From<Refused> for io::Error {
-    fn from(refused: Refused) -> Self {
+impl<T> From<Refused<T>> for io::Error {
+    fn from(refused: Refused<T>) -> Self {
         refused.error.into()
     }
 }

@@ -2,8 +2,9 @@
 use crate::error::done;
 use crate::{raw, Buffer, Domain, Refused, Result};
 use std::cell::UnsafeCell;
+use std::collections::HashMap;
 use std::fmt;
-use std::ptr;
+use std::ptr::{self, NonNull};
 
 /// The version of the library that this program runs with: 10,000 for each major number, 100 for each minor one, 1 for each
 /// revision.
@@ -54,16 +55,19 @@ pub struct Handle {
     raw: UnsafeCell<raw::iwarp>,
     // A buffer that lost its octets to the library. The next call that gives a buffer takes it, so that none is made.
     spare: Option<Buffer>,
+    // The boxes whose octets are regions, by STag. They were let go, and become boxes again once their regions are gone.
+    pub(crate) boxes: HashMap<u32, NonNull<[u8]>>,
 }
 
-// SAFETY: the library's calls on a handle may come from any thread, one at a time; without `Sync` they do.
+// SAFETY: the library's calls on a handle may come from any thread, one at a time; without `Sync` they do. The boxes are its own.
 unsafe impl Send for Handle {}
 
 /// ## Endpoints, domains and pools
 impl Handle {
     /// Makes an endpoint, with no domain and no stream. [`Error::NoMemory`](crate::Error::NoMemory) if there is no memory for it.
     pub fn new() -> Result<Self> {
-        let handle = Self { raw: UnsafeCell::new(raw::iwarp { at: ptr::null_mut() }), spare: None };
+        let handle =
+            Self { raw: UnsafeCell::new(raw::iwarp { at: ptr::null_mut() }), spare: None, boxes: HashMap::new() };
         // SAFETY: the handle is closed.
         done(unsafe { raw::iwarp_new(handle.at()) })?;
         Ok(handle)
@@ -172,7 +176,11 @@ impl Handle {
 impl Drop for Handle {
     fn drop(&mut self) {
         // SAFETY: the handle is as the last call on it left it, and is not used again; nothing that it lent is borrowed any more.
-        unsafe { raw::iwarp_free(self.at()) }
+        unsafe { raw::iwarp_free(self.at()) };
+        for octets in self.boxes.values() {
+            // SAFETY: it was a box; its region is gone, and with that all use of the octets.
+            drop(unsafe { Box::from_raw(octets.as_ptr()) });
+        }
     }
 }
 

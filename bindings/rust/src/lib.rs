@@ -10,6 +10,7 @@ mod error;
 mod event;
 mod fault;
 mod handle;
+mod kept;
 mod names;
 mod posting;
 pub mod raw;

@@ -110,6 +110,7 @@ constants! {
         IWARP_WINDOW_FULL = 38,
         IWARP_NOT_LENT = 39,
         IWARP_BAD_STRUCT = 40,
+        IWARP_OTHER_MEMORY = 41,
     }
     u32 {
         IWARP_WRITE = 1,
@@ -215,6 +216,12 @@ structs! {
     /// Octets that the library allocates, or none.
     struct iwarp_buffer {
         at: *mut c_void,
+    }
+
+    /// Memory that the program keeps, or none.
+    struct iwarp_memory {
+        at: *mut u8,
+        len: usize,
     }
 
     /// The facts of a region.
@@ -414,6 +421,13 @@ functions! {
         buffer: *mut iwarp_buffer,
         stag: *mut u32,
     ) -> i32;
+    fn iwarp_register_memory(
+        handle: *mut iwarp,
+        registration: *const iwarp_registration,
+        memory: *mut iwarp_memory,
+        stag: *mut u32,
+    ) -> i32;
+    fn iwarp_deregister_memory(handle: *mut iwarp, stag: u32, memory: *mut iwarp_memory) -> i32;
     fn iwarp_deregister_buffer(handle: *mut iwarp, stag: u32, buffer: *mut iwarp_buffer) -> i32;
     fn iwarp_drop_region(handle: *mut iwarp, stag: u32) -> i32;
     fn iwarp_region_at(handle: *mut iwarp, stag: u32, at: *mut *mut u8, n: *mut usize) -> i32;

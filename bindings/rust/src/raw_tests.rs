@@ -47,6 +47,7 @@ in_c! {
     *mut *const c_char = "const char **",
     *mut iwarp = "struct iwarp *",
     *mut iwarp_buffer = "struct iwarp_buffer *",
+    *mut iwarp_memory = "struct iwarp_memory *",
     *mut iwarp_facts = "struct iwarp_facts *",
     *mut iwarp_told = "struct iwarp_told *",
     *mut iwarp_event = "struct iwarp_event *",

@@ -98,7 +98,8 @@ impl Handle {
 
     /// Deregisters a region, valid or not, and gives its octets, with nothing copied. From then on its STag names no region.
     ///
-    /// Errors: `NoRegion`; `NoMemory` if there is none for the buffer's own few octets: the region stays.
+    /// Errors: `NoRegion`; `OtherMemory` if the octets are a [box's](Handle::register_box) or other
+    /// [memory of the program's](Handle::register_memory); `NoMemory` if there is none for the buffer's own few octets: the region stays.
     pub fn deregister(&mut self, stag: Stag) -> Result<Buffer> {
         self.get(|handle, buffer| {
             // SAFETY: handle and buffer are as the last calls on them left them.
@@ -106,7 +107,8 @@ impl Handle {
         })
     }
 
-    /// Deregisters a region, valid or not, and copies its octets to the front of `out`. Returns how many they are.
+    /// Deregisters a region, valid or not, and copies its octets to the front of `out`. Returns how many they are. They are freed as
+    /// [`drop_region`](Handle::drop_region) frees them.
     ///
     /// Errors: `NoRegion`, `NoRoom`: the region stays.
     pub fn deregister_into(&mut self, stag: Stag, out: &mut [u8]) -> Result<usize> {
@@ -115,13 +117,17 @@ impl Handle {
         // SAFETY: the handle is as the last call on it left it; `room` octets at `at` can be written; `n` is a local.
         let code = unsafe { raw::iwarp_deregister(self.at(), stag.number(), at, room, &mut n) };
         done_with_room(code, n)?;
+        drop(self.box_of(stag));
         Ok(n)
     }
 
-    /// Deregisters a region, valid or not, and frees its octets. Errors: `NoRegion`.
+    /// Deregisters a region, valid or not, and frees its octets, unless they are [memory that the program
+    /// keeps](Handle::register_memory). Errors: `NoRegion`.
     pub fn drop_region(&mut self, stag: Stag) -> Result<()> {
         // SAFETY: the handle is as the last call on it left it.
-        done(unsafe { raw::iwarp_drop_region(self.at(), stag.number()) })
+        done(unsafe { raw::iwarp_drop_region(self.at(), stag.number()) })?;
+        drop(self.box_of(stag));
+        Ok(())
     }
 
     /// The octets of a region, valid or not, where they stand. Errors: `NoRegion`.

@@ -124,6 +124,49 @@ fn a_buffer_becomes_a_region_and_comes_back() -> Result<()> {
     Ok(())
 }
 
+/// What a peer writes stands in the program's own memory. Each form comes back by its own call, with its own octets.
+#[test]
+fn memory_of_the_program_becomes_a_region_and_comes_back() -> Result<()> {
+    let [mut end, mut peer] = ends()?;
+    let registration = Registration { scope: Scope::Stream(end.stream), base: 7, rights: Rights::WRITE, drawn: None };
+    let octets = vec![b'.'; 12].into_boxed_slice();
+    let at = octets.as_ptr();
+    let boxed = end.handle.register_box(registration, octets)?;
+    peer.handle.post_write(peer.stream, boxed, 10, b"written", 0)?;
+    peer.carry(&mut end)?;
+    assert!(matches!(end.event()?, Event::Idle));
+    assert_eq!(end.handle.deregister(boxed).unwrap_err(), Error::OtherMemory);
+    assert_eq!(end.handle.deregister_memory(boxed), Err(Error::OtherMemory));
+    let octets = end.handle.deregister_box(boxed)?;
+    assert_eq!((&octets[..], octets.as_ptr()), (&b"...written.."[..], at));
+    assert_eq!(end.handle.deregister_box(boxed), Err(Error::NoRegion));
+
+    let nowhere = Registration { scope: Scope::Domain(Domain::new(9)), ..registration };
+    let refused = end.handle.register_box(nowhere, octets).unwrap_err();
+    assert_eq!((refused.error, refused.buffer.as_ptr()), (Error::NoDomain, at));
+    let none = end.handle.register_box(registration, Box::new([]))?;
+    assert_eq!(&end.handle.deregister_box(none)?[..], b"");
+
+    let mut array = *b"an array";
+    // SAFETY: nothing else uses the array until it has come back.
+    let unsafely = unsafe { end.handle.register_memory(registration, array.as_mut_ptr(), array.len())? };
+    end.handle.store(unsafely, 7, b"AN")?;
+    assert_eq!(end.handle.deregister_box(unsafely), Err(Error::OtherMemory));
+    end.handle.deregister_memory(unsafely)?;
+    assert_eq!(&array, b"AN array");
+
+    let buffer = end.handle.register_buffer(end.domain, 0, Buffer::new(1)?, Rights::READ)?;
+    assert_eq!(end.handle.deregister_box(buffer), Err(Error::OtherMemory));
+    let dropped = end.handle.register_box(registration, refused.buffer)?;
+    end.handle.drop_region(dropped)?;
+    let copied = end.handle.register_box(registration, b"copied".to_vec().into_boxed_slice())?;
+    let mut copy = [0; 6];
+    assert_eq!(end.handle.deregister_into(copied, &mut copy)?, 6);
+    assert_eq!((&copy, end.handle.deregister_box(copied)), (b"copied", Err(Error::NoRegion)));
+    end.handle.register_box(registration, vec![1; 100].into_boxed_slice())?; // it is freed with the handle
+    Ok(())
+}
+
 /// The bits tell the slot and the key of the first STag of a domain. The same bits give no STag again.
 #[test]
 fn stags_are_drawn() -> Result<()> {
