@@ -29,9 +29,9 @@
  *   iwarp_region_at tell, only between calls on that buffer or on that region's handle, and passes no pointer to them to
  *   such a call. It writes to octets that were posted from a buffer only after they were fetched.
  * - The program, or the system for it, writes to a place that iwarp_room lent only until the place is taken back: by the next
- *   call of iwarp_room, iwarp_came, iwarp_deliver, iwarp_work, iwarp_work_on, iwarp_work_within, iwarp_emit, iwarp_emit_onto,
- *   iwarp_fill, iwarp_accept, iwarp_reject, iwarp_break or iwarp_close on that stream, whatever it returns, and by iwarp_free. Calls
- *   on other streams, and others on that stream, may go on meanwhile.
+ *   call of iwarp_room, iwarp_came, iwarp_deliver, iwarp_work, iwarp_work_on, iwarp_work_within, iwarp_work_marked, iwarp_emit,
+ *   iwarp_emit_onto, iwarp_fill, iwarp_accept, iwarp_reject, iwarp_break or iwarp_close on that stream, whatever it returns, and by
+ *   iwarp_free. Calls on other streams, and others on that stream, may go on meanwhile.
  * - No pointer is null, even if its count is 0: pass `iwarp_octets(p)` and `iwarp_out(p)` for a `p` that may be. `octets` and
  *   `private_data` point to `n` octets that can be read, and that nothing writes during the call; `out` points to `room` octets
  *   that can be written. What the pointers of one call point to does not overlap.
@@ -43,13 +43,13 @@
  *
  * Each function that returns an int32_t returns IWARP_OK, or the first reason why it did nothing. If it does not return
  * IWARP_OK, the handle, the buffer and all that the call may write are as they were, with five exceptions: a length is written
- * with IWARP_NO_ROOM (by iwarp_emit with IWARP_NO_MEMORY too); the steps that iwarp_work_on or iwarp_work_within did before a
- * refused one stay done; a place that iwarp_room lent is taken back by the calls named above; iwarp_emit_onto and iwarp_fill may
- * leave the buffer's octets at another address; and iwarp_post_send_buffer says what may become of a buffer. IWARP_NO_MEMORY means
- * that malloc failed; the call may be made again. A call that copies octets, or allocates a receive buffer, does so first, so it
- * may return IWARP_NO_MEMORY in place of a reason that the region, the stream or the pool has; iwarp_post_send_buffer,
- * iwarp_post_write_buffer and iwarp_post_buffer, which allocate a few octets first, may too. Any other call that takes a buffer
- * returns it only if no other reason holds.
+ * with IWARP_NO_ROOM (by iwarp_emit with IWARP_NO_MEMORY too); the steps that iwarp_work_on, iwarp_work_within or
+ * iwarp_work_marked did before a refused one stay done; a place that iwarp_room lent is taken back by the calls named above;
+ * iwarp_emit_onto and iwarp_fill may leave the buffer's octets at another address; and iwarp_post_send_buffer says what may become of
+ * a buffer. IWARP_NO_MEMORY means that malloc failed; the call may be made again. A call that copies octets, or allocates a receive
+ * buffer, does so first, so it may return IWARP_NO_MEMORY in place of a reason that the region, the stream or the pool has;
+ * iwarp_post_send_buffer, iwarp_post_write_buffer and iwarp_post_buffer, which allocate a few octets first, may too. Any other call
+ * that takes a buffer returns it only if no other reason holds.
  *
  * A peer's mistake is never a return code: iwarp_work reports IWARP_FAULT, iwarp_emit IWARP_DENIED, or iwarp_fill
  * IWARP_FILL_DENIED, and that stream has ended.
@@ -648,6 +648,23 @@ int32_t iwarp_work_on(struct iwarp *handle, uint32_t stream, struct iwarp_event 
  * those that are bound are together as many as the shares of all its streams, a stream with fewer than its share bound finds one. A
  * stream with receive buffers of its own does as by iwarp_work_on. */
 int32_t iwarp_work_within(struct iwarp *handle, uint32_t stream, size_t share, struct iwarp_event *event);
+
+/* How many buffers of its domain's pool a stream may take, and from how many on it is told. What is reserved is not read; it is 0. */
+struct iwarp_limits {
+    size_t size; /* sizeof(struct iwarp_limits) */
+    size_t share; /* the share, as iwarp_work_within has it; SIZE_MAX: none */
+    size_t mark; /* the high-water mark; SIZE_MAX: none */
+    uint64_t reserved[4];
+};
+
+/* As iwarp_work_within, with the share of a struct, and it also stops at the step by which the stream comes to have more than `mark`
+ * of the pool's buffers bound: the high-water notification of RFC 5042 6.4.3.1. It reports IWARP_BUFFERED then, which iwarp_work_on
+ * passes over: once, and again only after the stream had `mark` or fewer bound. So a program can end the stream (iwarp_break), or post more
+ * buffers, before other streams find the pool empty. iwarp_progress tells how many are bound: IWARP_BUFFERED may also come after 4,096
+ * steps, as by iwarp_work_on. A program that sets no share gives SIZE_MAX as the share, one that sets no mark SIZE_MAX as the mark.
+ * IWARP_BAD_STRUCT, which comes behind IWARP_IS_CLOSED and before all else, means that the struct is shorter than here: then no step
+ * is done. */
+int32_t iwarp_work_marked(struct iwarp *handle, uint32_t stream, const struct iwarp_limits *limits, struct iwarp_event *event);
 
 /* Copies the message or buffer that was reported last on this stream to the front of `out`, and forgets it. `*n` is how many
  * octets it has, with IWARP_NO_ROOM too; 0 if there is none. */

@@ -430,16 +430,28 @@ static void call_due(struct iwarp *handle, uint32_t stream) {
         CHECK(wants == (emission.kind != IWARP_NOTHING));
 }
 
+/* None, or some buffers. */
+static size_t any_share(void) { return below(4) ? below(4) : SIZE_MAX; }
+
+/* Does steps with any limits. Their struct's own reason is told, if it has one, but for a closed handle's. */
+static int32_t work_marked(struct iwarp *handle, uint32_t stream, struct iwarp_event *event) {
+    struct iwarp_limits limits = {.size = any_size(sizeof limits), .share = any_share(), .mark = any_share(), .reserved = {MARK}};
+    int32_t code = iwarp_work_marked(handle, stream, &limits, event);
+    CHECK(code == IWARP_IS_CLOSED || (code == IWARP_BAD_STRUCT) == (limits.size < sizeof limits));
+    return code;
+}
+
 /* A call on a stream by which a place that is lent there is taken back, whatever it answers. */
 static void call_in_between(struct iwarp *handle, uint32_t stream) {
     struct iwarp_event event;
     struct iwarp_emission emission;
     uint32_t kept;
     size_t n;
-    switch (below(5)) {
+    switch (below(6)) {
     case 0: answered(iwarp_work(handle, stream, &event)); break;
     case 1: answered(iwarp_work_on(handle, stream, &event)); break;
     case 3: answered(iwarp_work_within(handle, stream, below(4), &event)); break;
+    case 4: answered(work_marked(handle, stream, &event)); break;
     case 2: answered(iwarp_emit(handle, stream, out, below(2) ? sizeof out : 0, &n, &emission)); break;
     default: answered(iwarp_deliver(handle, stream, below(400), given, below(80), &kept)); break;
     }
@@ -500,11 +512,12 @@ static void call_fill(struct iwarp *handle, uint32_t stream, size_t most, struct
     filled(handle, stream, most, buffer, &filling);
 }
 
-/* Does a step, or steps; perhaps with a share of a pool. */
+/* Does a step, or steps; perhaps with a share of a pool, or a mark. */
 static int32_t any_work(struct iwarp *handle, uint32_t stream, struct iwarp_event *event) {
-    switch (below(3)) {
+    switch (below(4)) {
     case 0: return iwarp_work(handle, stream, event);
     case 1: return iwarp_work_on(handle, stream, event);
+    case 2: return work_marked(handle, stream, event);
     default: return iwarp_work_within(handle, stream, below(4) ? below(4) : chance(), event);
     }
 }
@@ -874,13 +887,33 @@ static void shares(struct sender *sender, struct sender *other) {
     CHECK(progress.bound <= (sender->pooled ? other->sends - other->received : 0));
 }
 
+/* The step by which the stream comes to have more buffers bound than the mark is told: then it has one more. */
+static void work_to_mark(struct sender *sender, struct iwarp_event *event) {
+    struct iwarp_limits limits = {.size = sizeof limits, .share = SIZE_MAX, .mark = below(4)};
+    struct iwarp_progress before, after;
+    MUST(iwarp_progress(&sender->end, STREAM, &before));
+    MUST(iwarp_work_marked(&sender->end, STREAM, &limits, event));
+    MUST(iwarp_progress(&sender->end, STREAM, &after));
+    if (event->kind == IWARP_BUFFERED)
+        CHECK(after.bound == limits.mark + 1);
+    else
+        CHECK(before.bound > limits.mark || after.bound <= limits.mark);
+}
+
+/* Does a step, or steps. The share is all that are posted to the pool: none is lacking. */
+static void do_steps(struct sender *sender, struct iwarp_event *event) {
+    switch (below(3)) {
+    case 0: MUST(iwarp_work(&sender->end, STREAM, event)); break;
+    case 1: MUST(iwarp_work_within(&sender->end, STREAM, POSTED, event)); break;
+    default: work_to_mark(sender, event); break;
+    }
+}
+
 static void work(struct sender *sender, struct sender *other) {
     struct iwarp_event event;
     size_t n;
-    int within = below(2);
     do {
-        /* the share is all that are posted to the pool: none is lacking */
-        MUST(within ? iwarp_work_within(&sender->end, STREAM, POSTED, &event) : iwarp_work(&sender->end, STREAM, &event));
+        do_steps(sender, &event);
         switch (event.kind) {
         case IWARP_DONE:
             CHECK(event.token == sender->done);

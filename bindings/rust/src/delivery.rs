@@ -3,6 +3,7 @@ use crate::error::{done, done_with_room};
 use crate::{raw, Buffer, Delivery, Error, Event, Handle, Result, Stream};
 use std::io::{self, Read};
 use std::marker::PhantomData;
+use std::mem;
 use std::ops::{Deref, DerefMut};
 use std::ptr::{self, NonNull};
 use std::slice;
@@ -174,6 +175,24 @@ impl Handle {
         let mut event = raw::iwarp_event::default();
         // SAFETY: the handle is as the last call on it left it; `event` is a local.
         done(unsafe { raw::iwarp_work_within(self.at(), stream.number(), share, &mut event) })?;
+        Ok(Event::of(&event))
+    }
+
+    /// As [`work_within`](Handle::work_within), if there is a share, and it also stops at the step by which the stream comes to have more
+    /// than `mark` of its pool's buffers bound: the high-water notification of RFC 5042 6.4.3.1. Its event is [`Event::Buffered`],
+    /// which [`work_on`](Handle::work_on) passes over. It is told once, and again only after the stream had `mark` or fewer bound.
+    ///
+    /// Errors: as there.
+    pub fn work_marked(&mut self, stream: Stream, share: Option<usize>, mark: usize) -> Result<Event> {
+        let limits = raw::iwarp_limits {
+            size: mem::size_of::<raw::iwarp_limits>(),
+            share: share.unwrap_or(usize::MAX),
+            mark,
+            reserved: [0; 4],
+        };
+        let mut event = raw::iwarp_event::default();
+        // SAFETY: the handle is as the last call on it left it; `limits` and `event` are locals.
+        done(unsafe { raw::iwarp_work_marked(self.at(), stream.number(), &limits, &mut event) })?;
         Ok(Event::of(&event))
     }
 

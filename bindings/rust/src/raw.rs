@@ -321,6 +321,15 @@ structs! {
         reserved: [u64; 4],
     }
 
+    /// How many buffers of its domain's pool a stream may take, and from how many on it is told.
+    #[derive(Default)]
+    struct iwarp_limits {
+        size: usize,
+        share: usize,
+        mark: usize,
+        reserved: [u64; 4],
+    }
+
     /// What an emission gave.
     #[derive(Default)]
     struct iwarp_emission {
@@ -558,6 +567,12 @@ functions! {
     fn iwarp_work(handle: *mut iwarp, stream: u32, event: *mut iwarp_event) -> i32;
     fn iwarp_work_on(handle: *mut iwarp, stream: u32, event: *mut iwarp_event) -> i32;
     fn iwarp_work_within(handle: *mut iwarp, stream: u32, share: usize, event: *mut iwarp_event) -> i32;
+    fn iwarp_work_marked(
+        handle: *mut iwarp,
+        stream: u32,
+        limits: *const iwarp_limits,
+        event: *mut iwarp_event,
+    ) -> i32;
     fn iwarp_fetch(handle: *mut iwarp, stream: u32, out: *mut u8, room: usize, n: *mut usize) -> i32;
     fn iwarp_fetch_buffer(handle: *mut iwarp, stream: u32, buffer: *mut iwarp_buffer, n: *mut usize) -> i32;
     fn iwarp_fetch_sent(handle: *mut iwarp, stream: u32, buffer: *mut iwarp_buffer) -> i32;

@@ -59,6 +59,7 @@ in_c! {
     *const iwarp_options = "const struct iwarp_options *",
     *const iwarp_posting = "const struct iwarp_posting *",
     *const iwarp_registration = "const struct iwarp_registration *",
+    *const iwarp_limits = "const struct iwarp_limits *",
 }
 
 /// A C program that compiles only if the header says the same.

@@ -416,31 +416,52 @@ fn streams_of_a_domain_share_a_pool() -> Result<()> {
     Ok(())
 }
 
+/// Two ends, the second with two buffers in a pool, and the frames of two Sends from one to the other.
+fn two_sends() -> Result<([End; 2], [Vec<u8>; 2])> {
+    let [mut a, mut b] = ends()?;
+    b.handle.share(b.domain)?;
+    for _ in 0..2 {
+        b.handle.post_shared(b.domain, 600)?;
+    }
+    a.stream = a.handle.open_next(a.domain, Role::Preset, Options::MARKERS, b"")?;
+    b.stream = b.handle.open_shared_next(b.domain, Role::Preset, Options::MARKERS, b"")?;
+    let mut frames = [vec![0; 700], vec![0; 700]];
+    for (frame, octet) in frames.iter_mut().zip([7, 8]) {
+        a.handle.post_send(a.stream, &[octet; 600], NONE, 0)?;
+        let (_, n) = a.handle.emit(a.stream, frame)?;
+        frame.truncate(n);
+    }
+    Ok(([a, b], frames))
+}
+
 /// Of two Sends the second comes first, which binds a buffer of the pool. With a share of one the first then finds none.
 #[test]
 fn a_stream_keeps_to_its_share_of_a_pool() -> Result<()> {
     for share in [1, 2] {
-        let [mut a, mut b] = ends()?;
-        b.handle.share(b.domain)?;
-        for _ in 0..2 {
-            b.handle.post_shared(b.domain, 600)?;
-        }
-        a.stream = a.handle.open_next(a.domain, Role::Preset, Options::MARKERS, b"")?;
-        b.stream = b.handle.open_shared_next(b.domain, Role::Preset, Options::MARKERS, b"")?;
-        let (mut one, mut two) = ([0; 700], [0; 700]);
-        a.handle.post_send(a.stream, &[7; 600], NONE, 0)?;
-        a.handle.post_send(a.stream, &[8; 600], NONE, 0)?;
-        let (_, n) = a.handle.emit(a.stream, &mut one)?;
-        let (_, m) = a.handle.emit(a.stream, &mut two)?;
-        assert_eq!(b.handle.deliver(b.stream, n as u32, &two[..m])?, Delivery::Kept);
+        let ([_, mut b], [one, two]) = two_sends()?;
+        assert_eq!(b.handle.deliver(b.stream, one.len() as u32, &two)?, Delivery::Kept);
         assert_eq!(b.handle.work_within(b.stream, share)?, Event::Idle);
         assert_eq!(b.handle.progress(b.stream)?.bound, 1);
-        assert_eq!(b.handle.deliver(b.stream, 0, &one[..n])?, Delivery::Kept);
+        assert_eq!(b.handle.deliver(b.stream, 0, &one)?, Delivery::Kept);
         match b.handle.work_within(b.stream, share)? {
             Event::Fault(fault) => assert_eq!((share, fault), (1, Fault::UNTAGGED_NO_BUFFER)),
             event => assert!(share == 2 && matches!(event, Event::Received { len: 600, .. }), "{event:?}"),
         }
     }
+    Ok(())
+}
+
+/// Of two Sends the second comes first, and with the first the stream has more than one buffer bound.
+#[test]
+fn a_stream_that_passes_a_mark_is_told() -> Result<()> {
+    let ([_, mut b], [one, two]) = two_sends()?;
+    assert_eq!(b.handle.deliver(b.stream, one.len() as u32, &two)?, Delivery::Kept);
+    assert_eq!(b.handle.work_marked(b.stream, None, 1)?, Event::Idle);
+    assert_eq!(b.handle.deliver(b.stream, 0, &one)?, Delivery::Kept);
+    let event = b.handle.work_marked(b.stream, None, 1)?;
+    assert!(matches!(event, Event::Buffered { msn: 1, .. }), "{event:?}");
+    assert_eq!(b.handle.progress(b.stream)?.bound, 2);
+    assert!(matches!(b.handle.work_marked(b.stream, None, 1)?, Event::Received { len: 600, .. }));
     Ok(())
 }
 

@@ -55,7 +55,7 @@ pub use regions::{
 };
 pub use registering::{iwarp_register_as, iwarp_register_buffer_as};
 pub use sending::{iwarp_fetch_sent, iwarp_post_send_buffer, iwarp_post_write_buffer};
-pub use sharing::iwarp_work_within;
+pub use sharing::{iwarp_work_marked, iwarp_work_within};
 pub use sized::{iwarp_new_with, iwarp_peer_facts, iwarp_region_facts};
 use std::alloc::Global;
 pub use stream_opening::{iwarp_close, iwarp_open_next, iwarp_open_shared_next};

@@ -3,3 +3,5 @@ pub mod Emissions
 pub mod Far
 pub mod There
 pub mod Sent
+pub mod Binding
+pub mod Marks

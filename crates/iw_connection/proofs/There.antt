@@ -9,7 +9,7 @@ use Rattle.iw_endpoint.specs.Endpoint.{EndpointState, pool_of, left_of, has_stre
 use Rattle.iw_endpoint.specs.Sharing.{emptied, has_fewer, after_work_alone, after_work_within}
 use Rattle.iw_endpoint.proofs.Filled.{within}
 
-put_there : (e : EndpointState) (number : ℕ) (s : StreamState) → has_stream e number ≡ true → get_or (set e.streams number (Some s)) number None ≡ Some s
+pub put_there : (e : EndpointState) (number : ℕ) (s : StreamState) → has_stream e number ≡ true → get_or (set e.streams number (Some s)) number None ≡ Some s
 put_there e number s there = go (stream_of e number) refl there
   where
     go : (o : Option StreamState) → stream_of e number ≡ o → is_some o ≡ true → get_or (set e.streams number (Some s)) number None ≡ Some s

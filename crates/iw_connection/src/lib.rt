@@ -12,7 +12,7 @@
 //!
 //! The application counts no octets. If a read would block, [`take`] answers an error of that kind, and the stream goes on.
 //! [`take_some`] is [`take`] for a connection that brings little, and [`next_within`] is [`next`] for streams that share a pool
-//! without trusting one another.
+//! without trusting one another; [`next_marked`] also tells when one of them comes to have more of it than a high-water mark.
 //!
 //! After a fault ([`Step::Fault`], [`Filled::Fault`]) the application writes the Terminate that [`fill`] appends, and goes
 //! on reading, by [`take`], until [`Intake::End`]. Only then it closes the socket: closing one that has unread octets makes
@@ -90,7 +90,7 @@ mod working;
 
 pub use filling::{Filled, fill, fill_frames};
 pub use iw_endpoint::{CallRefusal, Endpoint, Intake, Octets, Step};
-pub use sharing::next_within;
+pub use sharing::{is_above_mark, next_marked, next_within};
 pub use taking::{break_link, close, take, take_some};
 pub use working::{Refusal, is_progress, next};
 

@@ -15,5 +15,6 @@ pub mod Sized
 pub mod Registering
 pub mod Keeping
 pub mod Sharing
+pub mod Marking
 pub mod Filling
 pub mod Elsewhere

@@ -26,6 +26,8 @@ pub const POSTING_SIZE: usize = 88;
 
 pub const REGISTRATION_SIZE: usize = 72;
 
+pub const LIMITS_SIZE: usize = 56;
+
 const _: () = prove!(size_of::<RegionTold>() == REGION_SIZE);
 
 const _: () = prove!(size_of::<PeerTold>() == PEER_SIZE);
@@ -35,6 +37,8 @@ const _: () = prove!(size_of::<Options>() == OPTIONS_SIZE);
 const _: () = prove!(size_of::<Posting>() == POSTING_SIZE);
 
 const _: () = prove!(size_of::<Registration>() == REGISTRATION_SIZE);
+
+const _: () = prove!(size_of::<Limits>() == LIMITS_SIZE);
 
 /// The facts of a region. What is reserved becomes 0.
 #[repr(C)]
@@ -121,6 +125,22 @@ pub struct Registration {
     pub stream: u32,
     /// The random bits that its STag is drawn by.
     pub drawn: u32,
+    pub reserved_0: u64,
+    pub reserved_1: u64,
+    pub reserved_2: u64,
+    pub reserved_3: u64,
+}
+
+/// How much of its domain's pool a stream may take, and from when on that is told (RFC 5042 6.4.3.1). What is reserved is not read.
+#[repr(C)]
+#[derive(Clone, Copy)]
+pub struct Limits {
+    /// How many octets the program's struct has.
+    pub size: usize,
+    /// The most buffers of the pool that a step may bind to the stream's messages.
+    pub share: usize,
+    /// The step by which the stream comes to have more than so many bound is told.
+    pub mark: usize,
     pub reserved_0: u64,
     pub reserved_1: u64,
     pub reserved_2: u64,

@@ -1,7 +1,9 @@
 //! Streams of one domain that share a pool, each with a share of its buffers.
 
 use bytes::Bytes;
-use iw_connection::{Endpoint, Octets, Step, StreamNumber, fill, next, next_within};
+use iw_connection::{
+    Endpoint, Octets, Step, StreamNumber, fill, is_above_mark, next, next_marked, next_within,
+};
 use iw_endpoint::{Config, Establishment, Fault, Message, PrivateData, Request, Role};
 use std::alloc::Global;
 use std::test::Fail;
@@ -257,5 +259,33 @@ fn a_share_of_one_is_enough_in_order(rt: HostRuntime) -> Result<(), Fail> {
             fault: None
         }
     );
+    Ok(())
+}
+
+// How many buffers the greedy stream has bound at each step by which it passes a mark, until there is nothing to do.
+fn marked(endpoint: &mut Endpoint, alloc: Global, mark: usize) -> Result<Vec<usize>, Fail> {
+    let mut bound = Vec::new(alloc);
+    for _ in 0..u64::MAX {
+        match next_marked(endpoint, GREEDY, usize::MAX, mark)? {
+            Step::Buffered { .. } => bound.push(endpoint.bound_buffers(GREEDY)?)?,
+            Step::Idle => break,
+            _ => {}
+        }
+    }
+    Ok(bound)
+}
+
+#[test]
+fn a_stream_that_takes_more_than_a_mark_is_told_once(rt: HostRuntime) -> Result<(), Fail> {
+    let alloc = rt.alloc();
+    let wire = sends(alloc, 60)?;
+    let mut endpoint = Endpoint::new(alloc);
+    open_both(&mut endpoint)?;
+    post_buffers(&mut endpoint, alloc)?;
+    endpoint.deliver(GREEDY, wire.second(), wire.others.as_slice())?;
+    assert_eq!(rt; marked(&mut endpoint, alloc, 3)?.as_slice(), [4].as_slice());
+    // It took the whole pool.
+    assert!(rt; is_above_mark(&endpoint, GREEDY, 7));
+    assert!(rt; !is_above_mark(&endpoint, GREEDY, 8));
     Ok(())
 }

@@ -1,4 +1,4 @@
-//! Tests of handles, called as C calls them: two of them joined in memory, buffers that change hands or are filled with frames, streams that are closed, places that are lent, structs that begin with their size, and what is refused.
+//! Tests of handles, called as C calls them: two of them joined in memory, buffers that change hands or are filled with frames, streams that are closed, places that are lent, marks of a pool, structs that begin with their size, and what is refused.
 #![tactic(auto)]
 
 #[cfg(test)]
@@ -11,6 +11,8 @@ mod filled;
 mod joined;
 #[cfg(test)]
 mod lending;
+#[cfg(test)]
+mod marking;
 #[cfg(test)]
 mod refused;
 #[cfg(test)]
