@@ -300,7 +300,7 @@ int32_t iwarp_register_buffer_as(struct iwarp *handle, const struct iwarp_regist
 
 /* Memory that the program keeps: mapped from a file, of large pages, or aligned for O_DIRECT. A struct of zeroes has none. */
 struct iwarp_memory {
-    uint8_t *at; /* may be NULL if `len` is 0 */
+    uint8_t *at; /* if `len` is 0 it may be NULL, and a call may change it */
     size_t len; /* how many octets */
 };
 
@@ -658,12 +658,12 @@ struct iwarp_limits {
 };
 
 /* As iwarp_work_within, with the share of a struct, and it also stops at the step by which the stream comes to have more than `mark`
- * of the pool's buffers bound: the high-water notification of RFC 5042 6.4.3.1. It reports IWARP_BUFFERED then, which iwarp_work_on
- * passes over: once, and again only after the stream had `mark` or fewer bound. So a program can end the stream (iwarp_break), or post more
- * buffers, before other streams find the pool empty. iwarp_progress tells how many are bound: IWARP_BUFFERED may also come after 4,096
- * steps, as by iwarp_work_on. A program that sets no share gives SIZE_MAX as the share, one that sets no mark SIZE_MAX as the mark.
- * IWARP_BAD_STRUCT, which comes behind IWARP_IS_CLOSED and before all else, means that the struct is shorter than here: then no step
- * is done. */
+ * of the pool's buffers bound: the high-water notification of RFC 5042 6.4.3.1. It reports IWARP_BUFFERED then, once, and again only
+ * after the stream had `mark` or fewer bound. So a program can end the stream (iwarp_break), or post more buffers, before other
+ * streams find the pool empty. iwarp_work_on and iwarp_work_within pass over that step: work at the stream by this call alone.
+ * iwarp_progress tells how many are bound: IWARP_BUFFERED may also come after 4,096 steps, as by iwarp_work_on. A program that sets no
+ * share gives SIZE_MAX as the share, one that sets no mark SIZE_MAX as the mark. IWARP_BAD_STRUCT, which comes behind IWARP_IS_CLOSED
+ * and before all else, means that the struct is shorter than here: then no step is done. */
 int32_t iwarp_work_marked(struct iwarp *handle, uint32_t stream, const struct iwarp_limits *limits, struct iwarp_event *event);
 
 /* Copies the message or buffer that was reported last on this stream to the front of `out`, and forgets it. `*n` is how many

@@ -218,6 +218,43 @@ static void call_register_buffer_as(struct iwarp *handle, struct iwarp_buffer *b
     takes(registered(handle, code, &registration, stag, had), buffer, had, at);
 }
 
+/* Memory that the program keeps: each piece is registered once in a round. */
+enum { PIECES = 200, PIECE = 300 };
+static uint8_t pieces[PIECES][PIECE];
+static uint32_t registered_pieces;
+
+static void call_register_memory(struct iwarp *handle) {
+    if (registered_pieces == PIECES) return;
+    struct iwarp_registration registration = any_registration();
+    struct iwarp_memory memory = {pieces[registered_pieces], below(PIECE + 1)}, was = memory;
+    uint32_t stag = MARK;
+    uint8_t *at;
+    size_t n;
+    int32_t code = iwarp_register_memory(handle, &registration, &memory, &stag);
+    if (!registered(handle, code, &registration, stag, was.len)) {
+        CHECK(memory.len == was.len && (was.len == 0 || memory.at == was.at));
+        return;
+    }
+    CHECK(memory.len == 0 && iwarp_region_at(handle, stag, &at, &n) == IWARP_OK && n == was.len && (n == 0 || at == was.at));
+    registered_pieces++;
+}
+
+/* What comes back is the region's own memory, if that is a piece; else another call takes the region, if there is one. */
+static void call_deregister_memory(struct iwarp *handle, uint32_t stag) {
+    struct iwarp_memory memory = {NULL, MARK};
+    uint8_t *at = NULL;
+    size_t n = 0;
+    int32_t there = iwarp_region_at(handle, stag, &at, &n), code = iwarp_deregister_memory(handle, stag, &memory);
+    int kept = n > 0 && at >= pieces[0] && at < pieces[0] + sizeof pieces;
+    if (there != IWARP_OK || code == IWARP_OTHER_MEMORY) {
+        CHECK(!kept && (there == IWARP_OK || code == there) && memory.at == NULL && memory.len == MARK);
+        return;
+    }
+    CHECK(code == IWARP_OK && memory.len == n && (n == 0 || (kept && memory.at == at)));
+    CHECK(iwarp_region_at(handle, stag, &at, &n) == IWARP_NO_REGION);
+    if (memory.len > 0) memset(memory.at, 1, memory.len);
+}
+
 /* A handle that is open stays as it is; another is opened by options. */
 static void call_new_with(struct iwarp *handle) {
     struct iwarp_options options = {.size = any_size(sizeof options), .flags = below(4) ? 0 : any_place(), .reserved = {MARK}};
@@ -255,9 +292,15 @@ static void call_memory(struct iwarp *handle, struct iwarp_buffer *buffer) {
     struct iwarp_facts facts;
     uint8_t *at, *later;
     size_t had = has(buffer, &at);
-    switch (below(21)) {
+    switch (below(23)) {
     case 0:
         answered(iwarp_add_domain(handle, pd));
+        return;
+    case 21:
+        call_register_memory(handle);
+        return;
+    case 22:
+        call_deregister_memory(handle, named);
         return;
     case 19:
         call_register_as(handle, len);
@@ -616,6 +659,7 @@ static void call_octets(struct iwarp *handle, struct iwarp *other, struct iwarp_
 }
 
 static void any_calls(void) {
+    registered_pieces = 0;
     for (int i = 0; i < HANDLES; i++) {
         refused_before = refused;
         if (!answered(iwarp_new(&handles[i]))) handles[i].at = 0;
