@@ -205,9 +205,10 @@ int32_t iwarp_add_domain(struct iwarp *handle, uint32_t pd);
 
 /* ---- buffers */
 
-/* Makes a buffer of `n` zero octets. They can become a region, a receive buffer or a message and come back, with nothing
- * copied: they stay at their address until they are freed, or iwarp_fill or iwarp_emit_onto is called with the buffer. The room
- * that they take stays when iwarp_buffer_truncate or iwarp_buffer_drop_front makes them fewer. */
+/* Makes a buffer of `n` zero octets, where malloc puts them (for another alignment iwarp_register_memory makes a region of the
+ * program's own memory). They can become a region, a receive buffer or a message and come back, with nothing copied: they stay at
+ * their address until they are freed, or iwarp_fill or iwarp_emit_onto is called with the buffer. The room that they take stays when
+ * iwarp_buffer_truncate or iwarp_buffer_drop_front makes them fewer. */
 int32_t iwarp_buffer_new(size_t n, struct iwarp_buffer *buffer);
 
 /* Frees the buffer's octets: then it is IWARP_NO_BUFFER. A second call does nothing. */

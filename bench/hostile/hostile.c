@@ -4,10 +4,10 @@
  *
  * First each way to make an endpoint hold memory, with 20 streams that do nothing else. Then eight honest streams, by turns alone
  * at one endpoint and, at another, beside a hundred hostile ones, 20 of each way, which are closed and opened anew without end. What
- * an octet of the honest ones costs must not grow by more than a quarter, and no honest stream may end; that is so where streams have receive
- * buffers of their own, where honest ones and strangers have a pool each, and where all share a pool of which each stream may bind its
- * share (iwarp_work_within). With one pool for all and no shares, strangers take its buffers: that is shown too. The status is 1 if a
- * limit is missed. */
+ * an octet of the honest ones costs must not grow by more than a quarter, and no honest stream may end; that is so where streams have
+ * receive buffers of their own, where honest ones and strangers have a pool each, and where all share a pool of which each stream may
+ * bind its share (iwarp_work_within; iwarp_work_marked, which has a mark too). With one pool for all and no shares, strangers take its
+ * buffers: that is shown too. The status is 1 if a limit is missed. */
 #define _POSIX_C_SOURCE 199309L
 #include "../../include/iwarp.h"
 #include <malloc.h>
@@ -29,11 +29,11 @@ static const char *const names[WAYS] = {
     "islands of one octet", "buffers bound by Sends whose turn never comes", "Reads that are never taken",
     "start-up frames that never end", "markers that lie, behind a hole",
 };
-enum { HOSTILE = OF_EACH * WAYS, SHARE = POOL / (HONEST + HOSTILE) };
+enum { HOSTILE = OF_EACH * WAYS, SHARE = POOL / (HONEST + HOSTILE), MARK = SHARE / 2 };
 
 /* Where receive buffers come from: each stream has its own; all share a pool; strangers share one, and honest peers another; all share
- * a pool, and each stream binds at most its share. */
-enum sharing { OWN, ONE_POOL, POOL_EACH, BY_SHARE };
+ * a pool, and each stream binds at most its share; the same, and it is told when one binds more than a mark. */
+enum sharing { OWN, ONE_POOL, POOL_EACH, BY_SHARE, BY_MARK };
 
 static void must(int is_so, const char *what) {
     if (is_so) return;
@@ -192,6 +192,8 @@ static void tear_down(struct place *place) {
 }
 
 static int32_t work_on(struct place *place, uint32_t stream, struct iwarp_event *event) {
+    static const struct iwarp_limits limits = {.size = sizeof limits, .share = SHARE, .mark = MARK};
+    if (place->sharing == BY_MARK) return iwarp_work_marked(&place->server, stream, &limits, event);
     if (place->sharing == BY_SHARE) return iwarp_work_within(&place->server, stream, SHARE, event);
     return iwarp_work_on(&place->server, stream, event);
 }
@@ -397,9 +399,10 @@ int main(int count, char **words) {
     make_octets();
     printf("held at most, octets a stream of %d:\n", OF_EACH);
     for (int way = 0; way < WAYS; way++) missed += tell_held((enum way)way);
-    missed += tell_speed("receive buffers of their own", OWN, lasts / 4);
-    missed += tell_speed("a pool for honest peers, another for strangers", POOL_EACH, lasts / 4);
-    missed += tell_speed("one pool for all, by shares", BY_SHARE, lasts / 4);
-    missed += tell_speed("one pool for all", ONE_POOL, lasts / 4);
+    missed += tell_speed("receive buffers of their own", OWN, lasts / 5);
+    missed += tell_speed("a pool for honest peers, another for strangers", POOL_EACH, lasts / 5);
+    missed += tell_speed("one pool for all, by shares", BY_SHARE, lasts / 5);
+    missed += tell_speed("one pool for all, by shares and a mark", BY_MARK, lasts / 5);
+    missed += tell_speed("one pool for all", ONE_POOL, lasts / 5);
     return missed != 0;
 }

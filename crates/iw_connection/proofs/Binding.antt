@@ -1,5 +1,5 @@
 -- A step by which a stream has more of its pool's buffers bound than before placed octets of a Send.
-use Rattle.std.proofs.Common.{◌≡◌, ℕ, zero, suc, ◌+◌, ◌≤◌, ◌⊎◌, inl, inr, Bool, true, false, cond, nat_lt, if◌then◌else◌, List, [], ◌∷◌, set, get_or, Option, Some, None, Result, Ok, Err, refl, sym, ap, subst, ◌∙◌, arith}
+use Rattle.std.proofs.Common.{◌≡◌, ℕ, zero, suc, ◌+◌, ◌≤◌, ◌⊎◌, inl, inr, Bool, true, false, cond, nat_lt, if◌then◌else◌, List, [], ◌∷◌, set, get_or, Option, Some, None, Result, Ok, Err, refl, sym, subst, ◌∙◌, arith}
 use Rattle.std.specs.Prelude.{not, ◌&&◌, count_by, is_some, unwrap_or}
 use Rattle.std.specs.List.{position_or_len}
 use Rattle.std.proofs.lemmas.Bool.{true≢false}
@@ -31,7 +31,7 @@ use Rattle.iw_connection.specs.Marking.{IsBuffered, passes_mark}
 use Rattle.iw_connection.proofs.There.{put_there}
 
 -- no more are bound than before, or octets of a Send were placed
-abbrev pub FewOr : StreamState → StreamState → Step (List ℕ) → Type 0
+abbrev FewOr : StreamState → StreamState → Step (List ℕ) → Type 0
 FewOr s new step = (bound_buffers new ≤ bound_buffers s) ⊎ IsBuffered step
 
 -- ---- of a queue

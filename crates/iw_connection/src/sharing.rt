@@ -102,7 +102,8 @@ fn passes_over<A: Allocator>(
 /// As [`next_within`], and it also stops at the step by which the stream comes to have more than `mark` of its pool's buffers
 /// bound, and returns it, which is a [`Step::Buffered`]: the high-water notification of RFC 5042 6.4.3.1, for an application
 /// that is to act on a peer which takes much of the pool. It comes once, and again only after the stream had `mark` or fewer
-/// bound ([`is_above_mark`]). An application that sets no share passes `usize::MAX` for it.
+/// bound ([`is_above_mark`]). `next` and `next_within` pass over that step: work at the stream by this call alone. An
+/// application that sets no share passes `usize::MAX` for it.
 ///
 /// An `Err` comes when that of [`next`](crate::next) does. It leaves the steps that were done before it, none of which has to
 /// be acted on, and none of which passed the mark.

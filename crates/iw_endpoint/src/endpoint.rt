@@ -468,6 +468,7 @@ impl<A: Allocator> Endpoint<A> {
     /// The in-order point ([`Endpoint::in_order_point`]) must be at most 2^62; it never exceeds the number of octets
     /// that came. `Refused` means out of memory, and comes only when a frame is judged before its turn. An `Err`
     /// changes nothing.
+    #[inline(always)]
     pub fn work(&mut self, number: u32) -> Result<Step<Octets<A>>, CallRefusal<AllocError>>
         requires { point_at self.old number ≤ 2 ^ 62 }
         ensures stream { (result ≡ Err CallRefusal.NoSuchStream) ↔ (has_stream self.old number ≡ false) }

@@ -119,6 +119,7 @@ impl<A: Allocator> Pools<A> {
 
     /// Does one step at a stream, with the pool of its domain, if there is one. An `Err` means out of memory and
     /// changes nothing.
+    #[inline(always)]
     pub(crate) fn work(
         &mut self,
         stream: &mut Stream<A>,
@@ -134,9 +135,16 @@ impl<A: Allocator> Pools<A> {
         ensures reach { stream.new.arrived.floor ≤ stream.old.arrived.floor + 2 ^ 18 }
         ensures within { IfOk result IsWithinBuffer }
     {
+        // Each arm takes its own answer apart: else both would be moved whole, through one place in memory.
         match self.get_mut(stream.domain()) {
-            Some(pool) => stream.work_shared(memory, pool),
-            None => stream.work(memory),
+            Some(pool) => match stream.work_shared(memory, pool) {
+                Ok(step) => Ok(step),
+                Err(error) => Err(error),
+            },
+            None => match stream.work(memory) {
+                Ok(step) => Ok(step),
+                Err(error) => Err(error),
+            },
         }
     }
 

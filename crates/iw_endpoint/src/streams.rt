@@ -131,12 +131,21 @@ impl<A: Allocator> Streams<A> {
         }
     }
 
-    /// The allocator of all streams.
+    /// The allocator of the streams that are put.
     pub(crate) fn allocator(&self) -> A
     where
         A: Copy,
     {
         self.alloc
+    }
+
+    /// Streams that are put from now on stand in memory of this allocator.
+    pub(crate) fn set_allocator(&mut self, alloc: A)
+    where
+        A: Copy,
+        ensures { self.new ≡ self.old }
+    {
+        self.alloc = alloc;
     }
 
     /// The stream that was opened under this number, if one was.

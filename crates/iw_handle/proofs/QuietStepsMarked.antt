@@ -1,10 +1,9 @@
 -- Steps with a share of the pool and a mark: what is said of these beside QuietStepsWithin.
-use Rattle.std.proofs.Common.{◌≡◌, ℕ, ◌+◌, ◌<◌, ◌≤◌, Bool, true, false, List, Option, Some, None, Ok, sym, ◌∙◌, ap, subst}
+use Rattle.std.proofs.Common.{◌≡◌, ℕ, ◌+◌, ◌<◌, ◌≤◌, true, false, List, Option, None, Ok, sym, ◌∙◌, ap, subst}
 use borrow.Author.Count.{below_more}
 use Rattle.iw_stream.specs.declared.answer.Step.{Step}
-use Rattle.iw_endpoint.specs.Endpoint.{EndpointState, has_stream}
+use Rattle.iw_endpoint.specs.Endpoint.{has_stream}
 use Rattle.iw_endpoint.specs.Sharing.{step_within}
-use Rattle.iw_connection.specs.Marking.{IsBuffered, passes_mark}
 use Rattle.iw_connection.proofs.Binding.{passes_buffered}
 use Rattle.iw_codes.specs.declared.numbers.TheConstants as numbers
 use Rattle.iw_handle.specs.declared.event.Event.{Event}

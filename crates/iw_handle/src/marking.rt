@@ -78,8 +78,9 @@ impl Handle {
     /// As [`Handle::work_within`], with the share of a struct; and the call also ends with the step by which the stream comes to
     /// have more than the struct's mark of its pool's buffers bound, and writes it to `event` as it is, `BUFFERED`: the
     /// high-water notification of RFC 5042 6.4.3.1. It comes once, and again only after the stream had so many or fewer bound.
-    /// `usize::MAX` sets no share, or no mark. `BadStruct` means that the struct is shorter than that of the first version; that
-    /// is judged before the stream, and then no step is done.
+    /// [`Handle::work_on`] and [`Handle::work_within`] pass over that step. `usize::MAX` sets no share, or no mark. `BadStruct`
+    /// means that the struct is shorter than that of the first version; that is judged before the stream, and then no step is
+    /// done.
     pub fn work_marked(
         &mut self,
         alloc: Global,

@@ -131,15 +131,16 @@ pub struct Registration {
     pub reserved_3: u64,
 }
 
-/// How much of its domain's pool a stream may take, and from when on that is told (RFC 5042 6.4.3.1). What is reserved is not read.
+/// How many buffers of its domain's pool a stream may take, and from how many on it is told (RFC 5042 6.4.3.1). What is reserved is
+/// not read.
 #[repr(C)]
 #[derive(Clone, Copy)]
 pub struct Limits {
     /// How many octets the program's struct has.
     pub size: usize,
-    /// The most buffers of the pool that a step may bind to the stream's messages.
+    /// The most buffers of the pool that may be bound to the stream's messages; `usize::MAX` sets no share.
     pub share: usize,
-    /// The step by which the stream comes to have more than so many bound is told.
+    /// It is told when more than so many come to be bound; `usize::MAX` sets no mark.
     pub mark: usize,
     pub reserved_0: u64,
     pub reserved_1: u64,

@@ -111,3 +111,43 @@ fn what_a_stream_holds_counts_beside_the_regions(rt: HostRuntime) -> Result<(), 
     assert_eq!(rt; quota.held(), 0);
     Ok(())
 }
+
+// Whether an octet past a gap is kept, which takes room for the gap too.
+fn is_kept(endpoint: &mut Limited<'_>, number: u32) -> bool {
+    matches!(endpoint.deliver(number, 150_000, &[7]), Ok(Delivery::Kept))
+}
+
+#[test]
+fn a_stream_with_a_reserve_takes_nothing_from_the_others_nor_they_from_it(
+    rt: HostRuntime,
+) -> Result<(), Fail> {
+    let quota = Quota::new(rt.alloc(), MOST);
+    let reserve = Quota::new(rt.alloc(), MOST);
+    {
+        let mut endpoint = limited(&quota);
+        assert!(rt; endpoint.open(0, DOMAIN, Role::Preset, config()).is_ok());
+        endpoint.open_streams_in(&reserve);
+        assert!(rt; endpoint.open(1, DOMAIN, Role::Preset, config()).is_ok());
+        let opened = reserve.held();
+        assert!(rt; opened > 0);
+        let others = vec![in &quota; 0u8; MOST.saturating_sub(quota.held()) as usize]?;
+        // The others hold all that they may: the stream with a reserve goes on.
+        assert!(rt; !is_kept(&mut endpoint, 0));
+        assert!(rt; is_kept(&mut endpoint, 1));
+        assert_eq!(rt;
+            (
+                quota.held(),
+                reserve.held() > opened.saturating_add(150_000)
+            ),
+            (MOST, true)
+        );
+        // It holds all that it may: the others go on.
+        drop(others);
+        let rest = vec![in &reserve; 0u8; MOST.saturating_sub(reserve.held()) as usize]?;
+        assert!(rt; endpoint.deliver(1, 250_000, &[7]).is_err());
+        assert_eq!(rt; (rest.is_empty(), reserve.held()), (false, MOST));
+        assert!(rt; is_kept(&mut endpoint, 0));
+    }
+    assert_eq!(rt; (quota.held(), reserve.held()), (0, 0));
+    Ok(())
+}

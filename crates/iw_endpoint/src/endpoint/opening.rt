@@ -64,6 +64,19 @@ impl<A: Allocator> Endpoint<A> {
         }
     }
 
+    /// Streams that are opened from now on, by whichever call, take the memory that they hold from `alloc`. Until the first such
+    /// call it is the allocator that the endpoint was made with. Streams that are open keep theirs, and an entry for each stream in
+    /// the endpoint's own tables stays with the endpoint's.
+    ///
+    /// So a stream may have a reserve: an allocator with a limit that no other stream uses.
+    pub fn open_streams_in(&mut self, alloc: A)
+    where
+        A: Copy,
+        ensures { self.new ≡ self.old }
+    {
+        self.streams.set_allocator(alloc);
+    }
+
     /// Why [`Endpoint::open`] refuses to open this stream, if it does for another reason than `NoMemory`.
     pub fn refusal_to_open(
         &self,
