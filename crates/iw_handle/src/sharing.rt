@@ -16,6 +16,7 @@ use iw_endpoint::{CallRefusal, Endpoint, Octets, Step};
 use std::alloc::Global;
 
 // Does one step at an endpoint. The in-order point is not past `reach`, before it and after it.
+#[inline(always)]
 pub(crate) fn step(
     endpoint: &mut Endpoint,
     number: u32,

@@ -65,8 +65,8 @@ impl<A: Allocator> Endpoint<A> {
     }
 
     /// Streams that are opened from now on, by whichever call, take the memory that they hold from `alloc`. Until the first such
-    /// call it is the allocator that the endpoint was made with. Streams that are open keep theirs, and an entry for each stream in
-    /// the endpoint's own tables stays with the endpoint's.
+    /// call it is the allocator that the endpoint was made with. Streams that are open keep theirs. The endpoint's own tables, with
+    /// an entry for each stream, stay in the memory of the endpoint's allocator.
     ///
     /// So a stream may have a reserve: an allocator with a limit that no other stream uses.
     pub fn open_streams_in(&mut self, alloc: A)

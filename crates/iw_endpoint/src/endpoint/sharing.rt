@@ -1,18 +1,26 @@
 //! Streams that bind no more than a share of their domain's pool (RFC 5042 6.4.3.1).
 ghost use Rattle.std.specs.Prelude.{◌≡◌, ◌↔◌, ◌+◌, ◌<◌, ◌≤◌, ◌^◌, nat_lt, true, false, is_ok, Ok, Err, IfOk, OnOk, OnErr};
 ghost use Rattle.iw_stream.specs.Kept.{IsWithinBuffer};
+ghost use Rattle.iw_stream.specs.Pooling.{bound_buffers};
 ghost use Rattle.iw_stream.specs.Work.{IsTry, task};
 
 use super::Endpoint;
 use crate::refusal::{CallRefusal, NoSuchStream};
 use iw_octets::Octets;
-use iw_stream::Step;
+use iw_stream::{Step, Stream};
 use std::alloc::{AllocError, Allocator};
 
+// Whether a stream has fewer buffers bound than its share.
+#[inline(always)]
+fn has_fewer<A: Allocator>(stream: &Stream<A>, share: usize) -> bool
+    ensures { result ≡ nat_lt (bound_buffers stream.now) share }
+{
+    stream.bound_buffers() < share
+}
+
 impl<A: Allocator> Endpoint<A> {
-    ghost use Rattle.iw_endpoint.specs.Endpoint.{has_stream, point_at, step_at, after_work};
-    ghost use Rattle.iw_endpoint.specs.Sharing.{bound_at, has_fewer, step_alone, after_work_alone, lent_alone};
-    ghost use Rattle.iw_endpoint.specs.Sharing.{step_within, after_work_within, lent_within};
+    ghost use Rattle.iw_endpoint.specs.Endpoint.{has_stream, point_at};
+    ghost use Rattle.iw_endpoint.specs.Sharing.{bound_at, step_within, after_work_within, lent_within};
 
     /// How many buffers of its domain's pool are bound to a stream's messages: each was taken when the first segment of its
     /// message was placed ([`Step::Buffered`]), and stays bound until it is handed out or back. At most 256; 0 if the stream
@@ -27,17 +35,6 @@ impl<A: Allocator> Endpoint<A> {
         }
     }
 
-    // Whether a stream has fewer buffers bound than its share.
-    fn has_fewer(&self, number: u32, share: usize) -> bool
-        ensures { result ≡ has_fewer self.now number share }
-    {
-        let bound = match self.streams.get(number) {
-            Some(stream) => stream.bound_buffers(),
-            None => 0,
-        };
-        bound < share
-    }
-
     /// As [`Endpoint::work`], for streams that share a pool without trusting one another: the stream may have no more than
     /// `share` of the pool's buffers bound to its messages (RFC 5042 6.4.3.1).
     ///
@@ -46,6 +43,7 @@ impl<A: Allocator> Endpoint<A> {
     /// more is the fault of a message without a buffer (RFC 5041 7.1), and the stream ends by it. All other steps are as ever.
     ///
     /// It allocates as `work` does, and answers `Err` when that does.
+    #[inline(always)]
     pub fn work_within(
         &mut self,
         number: u32,
@@ -62,30 +60,21 @@ impl<A: Allocator> Endpoint<A> {
         ensures reach { point_at self.new number ≤ point_at self.old number + 2 ^ 18 }
         ensures within { IfOk result IsWithinBuffer }
     {
-        if self.has_fewer(number, share) {
-            return self.work(number);
-        }
-        self.work_alone(number)
-    }
-
-    // The same of a stream that has its share.
-    fn work_alone(&mut self, number: u32) -> Result<Step<Octets<A>>, CallRefusal<AllocError>>
-    where
-        A: Copy,
-        requires { point_at self.old number ≤ 2 ^ 62 }
-        ensures stream { (result ≡ Err CallRefusal.NoSuchStream) ↔ (has_stream self.old number ≡ false) }
-        ensures step { IfOk result (λ step. Ok step ≡ step_alone self.old number) }
-        ensures after { OnOk result (self.new ≡ after_work_alone self.old number) }
-        ensures err { OnErr result (self.new ≡ self.old) }
-        ensures want { has_stream self.old number ≡ true → OnErr result (IsTry (task (lent_alone self.old number))) }
-        ensures reach { point_at self.new number ≤ point_at self.old number + 2 ^ 18 }
-        ensures within { IfOk result IsWithinBuffer }
-    {
+        // Each arm takes its own answer apart, as in `Pools::work`.
         match self.streams.get_mut(number) {
-            Some(stream) => match self.pools.work_alone(stream, &mut self.memory) {
-                Ok(step) => Ok(step),
-                Err(refusal) => Err(CallRefusal::Refused(refusal)),
-            },
+            Some(stream) => {
+                if has_fewer(stream, share) {
+                    match self.pools.work(stream, &mut self.memory) {
+                        Ok(step) => Ok(step),
+                        Err(refusal) => Err(CallRefusal::Refused(refusal)),
+                    }
+                } else {
+                    match self.pools.work_alone(stream, &mut self.memory) {
+                        Ok(step) => Ok(step),
+                        Err(refusal) => Err(CallRefusal::Refused(refusal)),
+                    }
+                }
+            }
             None => Err(CallRefusal::NoSuchStream),
         }
     }
