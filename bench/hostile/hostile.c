@@ -22,6 +22,8 @@ enum { REGION = 16384, SEND = 64, BUFFER = 256, OWN_BUFFERS = 4, POOL = 1024, LO
 enum { LIFE = 400, SEGMENT = 1408, WINDOW = 262144, SPACING = 512, EACH_LOST = 16 };
 /* Rounds between two looks at the clock, and in all; what a stream may hold (docs/LIMITS.md); the least speed beside strangers. */
 enum { ROUNDS = 200, MOST_ROUNDS = 1 << 20, MOST_HELD = 800000, LEAST_PERCENT = 80 };
+/* Turns that are compared, and what one by shares may take of one with a pool, in percent. */
+enum { TURNS = 20000, MOST_BY_SHARES = 105 };
 
 /* How hostile peers make an endpoint hold memory. */
 enum way { ISLANDS, BUFFERS, READS, START_UP, LIES, WAYS };
@@ -393,6 +395,28 @@ static int tell_speed(const char *what, enum sharing sharing, double lasts) {
     return is_missed;
 }
 
+/* What a turn of an honest stream costs alone, with a pool, by shares, and with a mark: medians of turns that go one after another,
+ * since the processor's speed may change. */
+static int tell_shares(void) {
+    enum { BY = 3 };
+    static const enum sharing by[BY] = { POOL_EACH, BY_SHARE, BY_MARK };
+    static struct place places[BY];
+    static double times[BY][TURNS];
+    double costs[BY];
+    for (int i = 0; i < BY; i++) set_up(&places[i], by[i], HONEST);
+    for (int turn = 0; turn < TURNS; turn++)
+        for (int i = 0; i < BY; i++) times[i][turn] = serve_honest(&places[i]);
+    for (int i = 0; i < BY; i++) {
+        costs[i] = median(times[i], TURNS);
+        tear_down(&places[i]);
+    }
+    int is_missed = 100 * costs[1] > MOST_BY_SHARES * costs[0];
+    printf("a turn of an honest stream, by turns: %.0f ns with a pool, by shares %.2f of that, with a mark too %.2f\n", costs[0],
+        costs[1] / costs[0], costs[2] / costs[0]);
+    if (is_missed) printf("  MISSED\n");
+    return is_missed;
+}
+
 int main(int count, char **words) {
     double lasts = count > 1 ? atof(words[1]) : SECONDS;
     int missed = 0;
@@ -404,5 +428,6 @@ int main(int count, char **words) {
     missed += tell_speed("one pool for all, by shares", BY_SHARE, lasts / 5);
     missed += tell_speed("one pool for all, by shares and a mark", BY_MARK, lasts / 5);
     missed += tell_speed("one pool for all", ONE_POOL, lasts / 5);
+    missed += tell_shares();
     return missed != 0;
 }
