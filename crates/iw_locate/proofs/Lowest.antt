@@ -94,6 +94,11 @@ module _ {T : Type 0} (v : Scene T) (p back start : ℕ) (value : back ≡ point
         | inr le ↦ let e : back ≡ 0 = omega (arith, le) in inl (sym value ∙ e, none e)
       ]
 
+-- what is said of a place by how far back the marker points
+pub points_by : {T : Type 0} (v : Scene T) (p s back : ℕ) → back ≡ pointer_at (octet_of v) p → PointsTo v p s → (back ≡ 0 → s ≡ p + 4) × (0 < back → s + back ≡ p)
+points_by v p s back value (inl (e, is)) = (λ none. is, λ lt. absurd (let no : ⊥ = omega (arith, lt, value, e) in no))
+points_by v p s back value (inr (lt, is)) = (λ none. absurd (let no : ⊥ = omega (arith, lt, value, none) in no), λ some. omega (arith, is, value))
+
 pub points_before : {T : Type 0} (v : Scene T) (p s back : ℕ) → back ≡ pointer_at (octet_of v) p → p < back → PointsTo v p s → ⊥
 points_before v p s back value far (inl (e, is)) = omega (arith, value, far, e)
 points_before v p s back value far (inr (lt, is)) = omega (arith, value, far, is)

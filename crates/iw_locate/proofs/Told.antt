@@ -1,7 +1,7 @@
 -- What is unsearched, and what is told of it.
 use Rattle.std.proofs.Common.{◌≡◌, ℕ, Bool, false, ◌+◌, ◌-◌, ◌%◌, ◌^◌, ◌<◌, ◌≤◌, true, Option, Some, None, refl, sym, ap, ◌∙◌, subst, arith, inl, inr}
 use Rattle.std.proofs.lemmas.Bool.{cases_lt}
-use Rattle.std.specs.Prelude.{MatchOption, min, max}
+use Rattle.std.specs.Prelude.{MatchOption, min, max, length}
 use Rattle.std.specs.List.{Contains}
 use Rattle.iw_ranges.specs.Arrived.{has_come, IsWithinLimits}
 use Rattle.iw_fpdu.specs.Places.{IsStart, data_place, data_index, span_start}
@@ -14,12 +14,12 @@ use Rattle.iw_locate.specs.declared.frame.Next.TheVariants.{Frame as Found}
 use Rattle.iw_locate.specs.declared.judged.Record.{Record}
 use Rattle.iw_locate.specs.declared.unsearched.Unsearched.{Unsearched}
 use Rattle.iw_locate.specs.Records.{from_of, AreApart}
-use Rattle.iw_locate.specs.Free.{Scene, point_of, octet_of, end_of, IsMarkerSeen, PointsTo, IsOpen, IsFree, CanLocate}
+use Rattle.iw_locate.specs.Free.{Scene, point_of, octet_of, end_of, IsMarkerSeen, PointsTo, EndsBefore, IsOpen, IsFree, CanLocate}
 use Rattle.iw_locate.specs.Next.{frame_at, CanBeEarly, IsFrontWhole, IsLowest, IsNext, IsNone}
 use Rattle.iw_locate.specs.Among.{IsWithin, IsFoundWithin, IsLowestAmong}
 use Rattle.iw_locate.specs.Unsearched.{IsTouched, Tells, IsFollowed, IsLeftBy, only_from, from_low}
 use Rattle.iw_locate.proofs.Front.{not_open_low}
-use Rattle.iw_locate.proofs.Open.{start_high, two_octets, come_low, not_open_far, not_open_before, not_seen_far}
+use Rattle.iw_locate.proofs.Open.{start_high, span_past_marker, two_octets, come_low, not_open_far, not_open_before, not_seen_far}
 use Rattle.iw_locate.proofs.Lowest.{points_low, IsPointedAt}
 
 -- where the frame at the in-order point is whole, no other is the next
@@ -34,6 +34,15 @@ front_not_early v f next is h whole early = go (subst (IsNext v) is h)
 pub points_near : {T : Type 0} (v : Scene T) → ((q : ℕ) → octet_of v q < 256) → (p s : ℕ) → PointsTo v p s → p < s + 65536
 points_near v octets p s (inl (none, is)) = omega (arith, is)
 points_near v octets p s (inr (some, is)) = omega (arith, is, octets (p + 2), octets (p + 3))
+
+-- no frame that begins at `front` or before it has its span past the place that it follows
+pub span_before : (point front s : ℕ) → EndsBefore point front → s ≤ front → s % 4 ≡ 0 → span_start true s ≤ point
+span_before point front s (inl is) le aligned = omega (arith, is, le, span_low true s)
+span_before point front s (inr (marker, is)) le aligned =
+    elim (cases_lt point s) [
+      | inl past ↦ let same : s ≡ point + 4 = omega (arith, past, le, is, marker, aligned) in omega (arith, ap (span_start true) same, span_past_marker point marker)
+      | inr here ↦ omega (arith, here, span_low true s)
+    ]
 
 -- nor does a frame reach further
 pub frame_near : (m : Bool) (s len : ℕ) → m ≡ true → IsStart m s → len < 65536 → frame_end m s len ≤ s + 66080
@@ -151,6 +160,19 @@ module _ {T : Type 0} (v : Scene T) (can : CanLocate v) (m : v.layout.markers �
       elim (tells.free m s free) [
         | inl within ↦ omega (arith, within.low, within.high, high, free.open_.past, span_low v.layout.markers s)
         | inr touched ↦ none_touched (max u.from (point_of v)) (min u.to (point_of v + 262144)) s (omega (arith, to)) (clipped u.from u.to s limits free.open_ touched)
+      ]
+
+  -- no frame from the one at the in-order point down
+  pub not_open_front : (front s : ℕ) → EndsBefore (point_of v) front → s ≤ front → IsOpen v s → ⊥
+  not_open_front front s ends le open_ =
+      not_open_low v can m s (span_before (point_of v) front s ends le open_.start.aligned) open_
+
+  -- no frame has a record, and no marker points to one that can be judged early
+  pub pointed_nowhere : length v.records ≡ 0 → ((p s : ℕ) → IsMarkerSeen v p → PointsTo v p s → IsOpen v s → ⊥) → IsNone v
+  pointed_nowhere empty none can_be s free =
+      elim free.found [
+        | inl (p, seen, points) ↦ none p s seen points free.open_
+        | inr (r, (k, lt, is), ends) ↦ absurd (let no : ⊥ = omega (arith, empty, lt) in no)
       ]
 
   -- the octets that came are taken in

@@ -317,7 +317,8 @@ fn did_marker_come<A: Allocator>(islands: &Islands<A>, base: u64, span: u64, sta
 }
 
 /// How far back the marker at frame place `place` points, where it came and was not given up.
-fn pointer<A: Allocator>(islands: &Islands<A>, base: u64, place: u64) -> u64
+#[inline]
+pub(crate) fn pointer<A: Allocator>(islands: &Islands<A>, base: u64, place: u64) -> u64
     requires fits { base + place + 4 < 2 ^ 64 }
     ensures value { IsHere (cell_at islands.now.arrived (base + (place + 2))) → IsHere (cell_at islands.now.arrived (base + (place + 3)))
         → result ≡ pointer_at (octet_in islands.now.arrived base) place }

@@ -1,4 +1,5 @@
-ghost use Rattle.std.specs.Prelude.{◌≡◌, ◌<◌, ◌≤◌, ◌+◌, ◌%◌, ◌^◌, ℕ, true, MatchOption, IsTrue};
+ghost use Rattle.std.specs.Prelude.{◌≡◌, ◌<◌, ◌≤◌, ◌+◌, ◌%◌, ◌^◌, ℕ, true, false, length, MatchBool, MatchOption, IsTrue};
+ghost use Rattle.iw_ranges.specs.Arrived.{has_come};
 ghost use Rattle.iw_locate.specs.Free.{scene_of, point_of, octet_of, end_of, IsOpen, CanLocate};
 ghost use Rattle.iw_locate.specs.Next.{CanBeEarly, IsLowest, IsNone, IsNext, frame_at};
 ghost use Rattle.iw_locate.specs.Among.{IsLowestAmong, IsFoundWithin};
@@ -7,7 +8,7 @@ ghost use Rattle.iw_locate.specs.Unsearched.{Tells, IsTouched, IsFollowed, IsLef
 use crate::frame::{Frame, Next};
 use crate::judged::{Judged, MAX_RECORDS};
 use crate::locator::Locator;
-use crate::searching::{round_up, start_or, start_past};
+use crate::searching::{pointer, round_up, start_or, start_past};
 use crate::unsearched::Unsearched;
 use iw_fpdu::{MARKER, SPACING};
 use iw_ranges::{Islands, WINDOW};
@@ -15,6 +16,9 @@ use std::alloc::Allocator;
 
 /// More than any frame reaches past its first octet, or any pointer back, in octets.
 const LONGEST: u64 = 66_080;
+
+/// How far past the in-order point it is looked whether a search can be spared: over eight markers.
+const NEAR: u64 = 8 * SPACING;
 
 impl Locator {
     /// The same as [`next`](Locator::next). It looks only at what is unsearched, and leaves what still is.
@@ -56,7 +60,49 @@ impl Locator {
             return true;
         }
         let point = islands.floor() - self.base;
-        unsearched.high <= unsearched.low.max(point) && unsearched.to <= unsearched.from.max(point)
+        if unsearched.high <= unsearched.low.max(point)
+            && unsearched.to <= unsearched.from.max(point)
+        {
+            return true;
+        }
+        // Past a gap, or where frames have records, a search is likely to find a frame: to look twice would cost more than it spares.
+        if judged.len() > 0 || islands.missing() < islands.end() {
+            return false;
+        }
+        self.points_nowhere_else(islands, judged, point, unsearched.reach)
+    }
+
+    /// Whether it is plain by the markers alone, where no frame has a record: little came past the in-order point, none of it from
+    /// `reach` on, and no marker there points past the frame at the point. So it is while a frame comes piece by piece.
+    #[inline(never)]
+    fn points_nowhere_else<T, A: Allocator, B: Allocator>(
+        &self,
+        islands: &Islands<A>,
+        judged: &Judged<T, B>,
+        point: u64,
+        reach: u64,
+    ) -> bool
+        requires can { CanLocate (scene_of self.now.layout self.now.base islands.now.arrived judged.now.records) }
+        requires point { point ≡ point_of (scene_of self.now.layout self.now.base islands.now.arrived judged.now.records) }
+        requires markers { self.now.layout.markers ≡ true }
+        requires none { length judged.now.records ≡ 0 }
+        requires reach { (q : ℕ) → reach ≤ q → has_come islands.now.arrived (self.now.base + q) ≡ false }
+        ensures { IsTrue result → IsNone (scene_of self.now.layout self.now.base islands.now.arrived judged.now.records) }
+    {
+        islands.limits();
+        if reach > point + NEAR {
+            return false;
+        }
+        let front = start_past(point);
+        let mut place = round_up(point);
+        'markers: while place < reach {
+            let back = pointer(islands, self.base, place);
+            if points_past(place, back, front) {
+                return false;
+            }
+            place += SPACING;
+        }
+        true
     }
 
     /// The frame at the lowest free place, while there is room for a record, as [`next_since`](Locator::next_since) finds it where
@@ -226,6 +272,21 @@ impl Locator {
         islands.limits();
         let end = unsearched.reach.min(point + WINDOW).min(high + LONGEST);
         self.lowest_in(islands, judged, point, low, high, end)
+    }
+}
+
+/// Whether the marker at `place` points past `front`, where it says `back`.
+#[inline(always)]
+fn points_past(place: u64, back: u64, front: u64) -> bool
+    requires low { place < 2 ^ 63 }
+    requires near { front < 2 ^ 63 }
+    requires small { back < 2 ^ 16 }
+    ensures { MatchBool result (Unit {0}) ((s : ℕ) → (back ≡ 0 → s ≡ place + 4) → (0 < back → s + back ≡ place) → s ≤ front) }
+{
+    if back == 0 {
+        place + MARKER > front
+    } else {
+        place > front + back
     }
 }
 
