@@ -30,11 +30,6 @@ front_not_early v f next is h whole early = go (subst (IsNext v) is h)
     go (inl front) = let e = sym early ∙ ap (λ (x : Frame). x.early) front.0 in absurd (cc e)
     go (inr other) = other.1 whole
 
--- a pointer reaches back less than 65,536 octets
-pub points_near : {T : Type 0} (v : Scene T) → ((q : ℕ) → octet_of v q < 256) → (p s : ℕ) → PointsTo v p s → p < s + 65536
-points_near v octets p s (inl (none, is)) = omega (arith, is)
-points_near v octets p s (inr (some, is)) = omega (arith, is, octets (p + 2), octets (p + 3))
-
 -- no frame that begins at `front` or before it has its span past the place that it follows
 pub span_before : (point front s : ℕ) → EndsBefore point front → s ≤ front → s % 4 ≡ 0 → span_start true s ≤ point
 span_before point front s (inl is) le aligned = omega (arith, is, le, span_low true s)
@@ -43,6 +38,11 @@ span_before point front s (inr (marker, is)) le aligned =
       | inl past ↦ let same : s ≡ point + 4 = omega (arith, past, le, is, marker, aligned) in omega (arith, ap (span_start true) same, span_past_marker point marker)
       | inr here ↦ omega (arith, here, span_low true s)
     ]
+
+-- a pointer reaches back less than 65,536 octets
+pub points_near : {T : Type 0} (v : Scene T) → ((q : ℕ) → octet_of v q < 256) → (p s : ℕ) → PointsTo v p s → p < s + 65536
+points_near v octets p s (inl (none, is)) = omega (arith, is)
+points_near v octets p s (inr (some, is)) = omega (arith, is, octets (p + 2), octets (p + 3))
 
 -- nor does a frame reach further
 pub frame_near : (m : Bool) (s len : ℕ) → m ≡ true → IsStart m s → len < 65536 → frame_end m s len ≤ s + 66080

@@ -275,13 +275,14 @@ impl Locator {
     }
 }
 
-/// Whether the marker at `place` points past `front`, where it says `back`.
+/// Whether the place that the marker at `place` points to, where it says `back`, lies past `front`.
 #[inline(always)]
 fn points_past(place: u64, back: u64, front: u64) -> bool
     requires low { place < 2 ^ 63 }
     requires near { front < 2 ^ 63 }
     requires small { back < 2 ^ 16 }
-    ensures { MatchBool result (Unit {0}) ((s : ℕ) → (back ≡ 0 → s ≡ place + 4) → (0 < back → s + back ≡ place) → s ≤ front) }
+    ensures { let is_pointed = λ (s : ℕ). (back ≡ 0 → s ≡ place + 4) × (0 < back → s + back ≡ place) in
+        MatchBool result ((s : ℕ) → is_pointed s → front < s) ((s : ℕ) → is_pointed s → s ≤ front) }
 {
     if back == 0 {
         place + MARKER > front

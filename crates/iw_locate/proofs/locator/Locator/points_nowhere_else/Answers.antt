@@ -1,7 +1,6 @@
-use Rattle.std.proofs.Common.{◌≡◌, ℕ, sym, ◌∙◌, subst, arith, inl, inr}
+use Rattle.std.proofs.Common.{◌≡◌, ℕ, subst, arith, inl, inr}
 use Rattle.std.proofs.lemmas.Bool.{cases_lt}
-use Rattle.iw_fpdu.specs.Reading.{pointer_at}
-use Rattle.iw_locate.specs.Free.{Scene, scene_of, octet_of, point_of, EndsBefore, IsMarkerSeen, PointsTo}
+use Rattle.iw_locate.specs.Free.{Scene, scene_of, EndsBefore, IsMarkerSeen, PointsTo}
 use Rattle.iw_locate.proofs.Open.{pointer_seen, not_open_before, not_seen_missing}
 use Rattle.iw_locate.proofs.Lowest.{points_by}
 use Rattle.iw_locate.proofs.Told.{pointed_nowhere, not_open_front}
@@ -31,7 +30,7 @@ markers-preserved g c =
                 let value = pointer_seen v c.requires.can c.requires.markers place c.pointer-back.result (omega (arith, c.markers.invariant.past, c.requires.point)) c.pointer-back.ensures.value here in
                 let by = points_by v place s c.pointer-back.result value (subst (λ x. PointsTo v x s) same points) in
                 not_open_front v c.requires.can c.requires.markers c.start_past-front.result s (subst (λ x. EndsBefore x c.start_past-front.result) c.requires.point c.start_past-front.ensures.ends)
-                (c.if-points_past.ensures s by.0 by.1) open_
+                (c.if-points_past.ensures s by) open_
           ];
     }
 
