@@ -1,5 +1,5 @@
 -- Frames one after another.
-use Rattle.std.proofs.Common.{◌≡◌, ℕ, zero, suc, ◌+◌, ◌<◌, ◌≤◌, true, false, List, [], ◌++◌, length, Option, Some, None, Result, Ok, Err, refl, sym, ap, subst, ◌∙◌, add-one, append_assoc, append-nil, arith, inl, inr}
+use Rattle.std.proofs.Common.{◌≡◌, ◌⊎◌, ℕ, zero, suc, ◌+◌, ◌<◌, ◌≤◌, true, false, List, [], ◌++◌, length, Some, Result, Ok, Err, refl, sym, ap, subst, ◌∙◌, add-one, append_assoc, append-nil, arith, inl, inr}
 use Rattle.std.proofs.lemmas.Bool.{true≢false}
 use borrow.Author.Count.{below_more}
 use Rattle.iw_stream.specs.declared.answer.Emission.{Emission}
@@ -11,7 +11,7 @@ use Rattle.iw_stream.specs.Stream.{StreamState, Due, StartUp, LastWord, Ready, R
 use Rattle.iw_endpoint.specs.Endpoint.{EndpointState, stream_at, emission_at, emitted_at, after_emit}
 use Rattle.iw_connection.specs.declared.filling.Filled.{Filled}
 use Rattle.iw_connection.specs.declared.filling.Filled.TheVariants as filled
-use Rattle.iw_connection.specs.Filling.{is_frame, after_emissions, octets_emitted, Emits, Stopped, IsHeld, Ends, FillsTo, Goes}
+use Rattle.iw_connection.specs.Filling.{is_frame, after_emissions, octets_emitted, Emits, Stopped, IsHeld, Ends, FillsTo, Fits}
 
 pub emissions-more : (n : ℕ) (e : EndpointState) (number : ℕ) → after_emissions (n + 1) e number ≡ after_emit (after_emissions n e number) number
 unfolding after_emissions
@@ -66,58 +66,31 @@ ends_there at new number held filled.More stop left = absurd stop
 ends_there at new number held filled.All stop left = (stop, left)
 ends_there at new number held (filled.Fault fault) stop left = (stop, left)
 
--- nothing is emitted but what stops it
-pub fills_none : (old new : EndpointState) (number most capacity : ℕ) (before after : List ℕ) (f : Filled) → Stopped (emission_at old number) (Some f) → after ≡ before ++ emitted_at old number
-    → new ≡ after_emit old number → FillsTo old number most before after capacity new 0 f
-fills_none old new number most capacity before after f stop put left =
-    let same : after ≡ before = stopped_out old number f before after stop put in
+-- n frames were emitted, and what is next is no frame
+pub fills_stopped : (old at new : EndpointState) (number most n capacity : ℕ) (before out after : List ℕ) (f : Filled) → Emits old number n before out at → length out ≤ length before + most
+    → Stopped (emission_at at number) (Some f) → after ≡ out ++ emitted_at at number → new ≡ after_emit at number → FillsTo old number most before after capacity new n f
+fills_stopped old at new number most n capacity before out after f s few stop put left =
+    let same : after ≡ out = stopped_out at number f out after stop put in
     record {
-      at = old;
-      emits = subst (λ xs. Emits old number 0 before xs old) (sym same) (none_emitted old number before);
-      ends = ends_there old new number _ f stop left;
-      few = inl (omega (arith, ap length same));
+      at = at;
+      emits = subst (λ xs. Emits old number n before xs at) (sym same) s;
+      ends = ends_there at new number _ f stop left;
+      few = inl (omega (arith, few, ap length same));
     }
 
--- n frames were emitted, and the next is held back, or nothing is due, or it is a fault
-pub fills : (old at new : EndpointState) (number most n rest capacity : ℕ) (before out after : List ℕ) (f : Filled) → Emits old number n before out at → 0 < n → length out + rest ≡ length before + most
-    → Goes at number rest out after capacity new (Some f) → FillsTo old number most before after capacity new n f
-fills old at new number most n rest capacity before out after filled.More s some sum goes = record {
-  at = at;
-  emits = subst (λ xs. Emits old number n before xs at) (sym goes.0) s;
-  ends = (goes.1, (some, subst (λ k. IsHeld at number k (length after) capacity) sum (subst (λ (xs : List ℕ). IsHeld at number (length out + rest) (length xs) capacity) (sym goes.0) goes.2)));
-  few = inl (omega (arith, sum, ap length goes.0));
-}
-fills old at new number most n rest capacity before out after filled.All s some sum goes = record {
-  at = at;
-  emits = subst (λ xs. Emits old number n before xs at) (sym goes.1) s;
-  ends = (goes.0, goes.2);
-  few = inl (omega (arith, sum, ap length goes.1));
-}
-fills old at new number most n rest capacity before out after (filled.Fault fault) s some sum goes = record {
-  at = at;
-  emits = subst (λ xs. Emits old number n before xs at) (sym goes.1) s;
-  ends = (goes.0, goes.2);
-  few = inl (omega (arith, sum, ap length goes.1));
-}
-
--- the first frame is longer than what was asked for
-pub fills_long : (old at : EndpointState) (number most n capacity : ℕ) (before out : List ℕ) → Emits old number n before out at → n ≡ 1 → length before + most < length out
-    → FillsTo old number most before out capacity at n filled.More
-fills_long old at number most n capacity before out s one long = record {
+-- n frames were emitted, and the next is held back
+pub fills_held : (old at : EndpointState) (number most n capacity : ℕ) (before out : List ℕ) → Emits old number n before out at → 0 < n → (length out ≤ length before + most) ⊎ (n ≡ 1)
+    → IsHeld at number (length before + most) (length out) capacity → FillsTo old number most before out capacity at n filled.More
+fills_held old at number most n capacity before out s some few held = record {
   at = at;
   emits = s;
-  ends = (refl, (omega (arith, one), inl (omega arith)));
-  few = inr one;
+  ends = (refl, (some, held));
+  few = few;
 }
 
-pub none_is : {T : Type 0} (o : Option T) → ((x : T) → o ≡ Some x → ⊥) → o ≡ None
-none_is None other = refl
-none_is (Some x) other = absurd (other x refl)
-
--- where one is emitted, or it stops
-pub goes_on : (at new : EndpointState) (number rest capacity : ℕ) (out after : List ℕ) (o : Option Filled) → Stopped (emission_at at number) o → after ≡ out ++ emitted_at at number → new ≡ after_emit at number
-    → (length (emitted_at at number) ≡ 0 → IsNothing (emission_at at number)) → length (emitted_at at number) ≤ rest → Goes at number rest out after capacity new o
-goes_on at new number rest capacity out after None stop put left some few = (stop, some_octets (length (emitted_at at number)) refl, few, put, left)
+-- a frame has octets
+pub some_octets : (at : EndpointState) (number : ℕ) → is_frame (emission_at at number) ≡ true → (length (emitted_at at number) ≡ 0 → IsNothing (emission_at at number)) → 0 < length (emitted_at at number)
+some_octets at number frame some = go (length (emitted_at at number)) refl
   where
     refuted : (emission : Emission) → is_frame emission ≡ true → IsNothing emission → ⊥
     refuted (emissions.Frame from len) e nothing = nothing
@@ -125,9 +98,19 @@ goes_on at new number rest capacity out after None stop put left some few = (sto
     refuted (emissions.Fault fault) e nothing = true≢false (sym e)
     refuted emissions.Nothing e nothing = true≢false (sym e)
 
-    some_octets : (n : ℕ) → length (emitted_at at number) ≡ n → 0 < length (emitted_at at number)
-    some_octets zero e = absurd (refuted (emission_at at number) stop (some e))
-    some_octets (suc n) e = omega (arith, e)
-goes_on at new number rest capacity out after (Some filled.More) stop put left some few = absurd stop
-goes_on at new number rest capacity out after (Some filled.All) stop put left some few = (stop, stopped_out at number filled.All out after stop put, left)
-goes_on at new number rest capacity out after (Some (filled.Fault fault)) stop put left some few = (stop, stopped_out at number (filled.Fault fault) out after stop put, left)
+    go : (n : ℕ) → length (emitted_at at number) ≡ n → 0 < length (emitted_at at number)
+    go zero e = absurd (refuted (emission_at at number) frame (some e))
+    go (suc n) e = omega (arith, e)
+
+-- one frame more: all have octets but perhaps the first, and all are within `most` but perhaps the first
+pub one_longer : (at : EndpointState) (number n begun most rest len after capacity : ℕ) → is_frame (emission_at at number) ≡ true → (0 < n → Fits at number rest len capacity) → after ≡ len + length (emitted_at at number)
+    → begun ≤ len → begun + n ≤ len + 1 → len + rest ≡ begun + most → (begun + (n + 1) ≤ after + 1) × ((after ≤ begun + most) ⊎ (n + 1 ≡ 1))
+one_longer at number zero begun most rest len after capacity frame fits grown low long sum = (omega (arith, grown, low), inr refl)
+one_longer at number (suc n) begun most rest len after capacity frame fits grown low long sum =
+    let fit = fits (omega arith) in
+    (omega (arith, grown, long, some_octets at number frame fit.2), inl (omega (arith, grown, sum, fit.0)))
+
+-- where octets came to a buffer, there was a frame
+pub behind_first : (n : ℕ) (before out : List ℕ) (E C : Type 0) → (0 < n) ⊎ (E × (out ≡ before) × C) → length before < length out → 0 < n
+behind_first n before out E C (inl some) more = some
+behind_first n before out E C (inr same) more = absurd (omega (arith, ap length same.1, more))

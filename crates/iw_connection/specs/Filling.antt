@@ -2,7 +2,7 @@
 use Rattle.std.specs.Prelude.{◌≡◌, ◌⊎◌, ◌^◌, ℕ, zero, suc, ◌+◌, ◌<◌, ◌≤◌, Bool, true, false, not, nat_lt, if◌then◌else◌, List, [], length, ◌++◌, Option, None, Some, IsSome}
 use Rattle.iw_stream.specs.declared.answer.Emission.{Emission}
 use Rattle.iw_stream.specs.declared.answer.Emission.TheVariants as emissions
-use Rattle.iw_stream.specs.Stream.{BeginsReads, due}
+use Rattle.iw_stream.specs.Stream.{BeginsReads, IsNothing, due}
 use Rattle.iw_endpoint.specs.Endpoint.{EndpointState, has_stream, stream_at, sent_at, emission_at, emitted_at, after_emit}
 use Rattle.iw_connection.specs.declared.filling.Filled.{Filled}
 use Rattle.iw_connection.specs.declared.filling.Filled.TheVariants.{All, More, Fault}
@@ -65,10 +65,7 @@ pub record FillsTo (old : EndpointState) (number most : ℕ) (before after : Lis
 abbrev pub Fills : EndpointState → ℕ → ℕ → List ℕ → List ℕ → ℕ → EndpointState → Filled → Type 0
 Fills old number most before after capacity new filled = (n : ℕ) × FillsTo old number most before after capacity new n filled
 
--- one frame is emitted, of at most `rest` octets; or nothing is, and this is where it stops
-abbrev pub Goes : EndpointState → ℕ → ℕ → List ℕ → List ℕ → ℕ → EndpointState → Option Filled → Type 0
-Goes old number rest before after capacity new None =
-    (is_frame (emission_at old number) ≡ true) × (0 < length (emitted_at old number)) × (length (emitted_at old number) ≤ rest) × (after ≡ before ++ emitted_at old number) × (new ≡ after_emit old number)
-Goes old number rest before after capacity new (Some More) = (after ≡ before) × (new ≡ old) × IsHeld old number (length before + rest) (length before) capacity
-Goes old number rest before after capacity new (Some All) = (emission_at old number ≡ emissions.Nothing) × (after ≡ before) × (new ≡ after_emit old number)
-Goes old number rest before after capacity new (Some (Fault fault)) = (emission_at old number ≡ emissions.Fault fault) × (after ≡ before) × (new ≡ after_emit old number)
+-- the next emission has at most `rest` octets, for which a buffer with `len` taken has room; and if it has none, nothing is due
+abbrev pub Fits : EndpointState → ℕ → ℕ → ℕ → ℕ → Type 0
+Fits at number rest len capacity =
+    (length (emitted_at at number) ≤ rest) × (len + length (emitted_at at number) ≤ capacity) × (length (emitted_at at number) ≡ 0 → IsNothing (emission_at at number))

@@ -1,9 +1,9 @@
-ghost use Rattle.std.specs.Prelude.{◌≡◌, ◌<◌, ◌≤◌, ◌+◌, ◌^◌, ◌++◌, length, true, None, Err, vec_len, vec_capacity};
+ghost use Rattle.std.specs.Prelude.{◌≡◌, ◌<◌, ◌≤◌, ◌+◌, ◌^◌, ◌++◌, length, true, false, None, Err, vec_len, vec_capacity};
 ghost use Rattle.std.specs.Prelude.{IfOk, IfErr, IfSome, IfNone, OnOk, OnErr};
 ghost use Rattle.std.specs.Result.{result_err};
 ghost use Rattle.iw_stream.specs.Stream.{BeginsReads, IsNothing, due};
 ghost use Rattle.iw_endpoint.specs.Endpoint.{has_stream, stream_at, sent_at, emission_at, emitted_at, after_emit};
-ghost use Rattle.iw_connection.specs.Filling.{fill_refusal, Fills, FillsTo, Goes, Stopped};
+ghost use Rattle.iw_connection.specs.Filling.{fill_refusal, Fills, FillsTo, Fits, IsHeld, Stopped};
 
 use crate::StreamNumber;
 use crate::working::Refusal;
@@ -91,26 +91,28 @@ fn due_len<A: Allocator>(endpoint: &Endpoint<A>, number: StreamNumber) -> usize
     }
 }
 
-// Emits what is due, if it has at most `rest` octets and there is room for it. Tells where it stops, unless it is a frame.
+// Whether the next emission is held back behind `n` frames: it has more than `rest` octets, or there is no room for it and none
+// can be made. The first never is.
 #[inline(always)]
-fn emit_within<A: Allocator>(
-    endpoint: &mut Endpoint<A>,
+fn is_held<A: Allocator>(
+    endpoint: &Endpoint<A>,
     number: StreamNumber,
     out: &mut Vec<u8, A>,
+    n: u64,
     rest: usize,
-) -> Option<Filled>
-    requires there { has_stream endpoint.old number ≡ true }
-    requires few { sent_at endpoint.old number ≤ 2 ^ 62 }
-    ensures { Goes endpoint.old number rest out.old.items out.new.items (vec_capacity out.new) endpoint.new result }
+) -> bool
+    requires there { has_stream endpoint.now number ≡ true }
+    requires few { sent_at endpoint.now number ≤ 2 ^ 62 }
+    ensures items { out.new.items ≡ out.old.items }
+    ensures first { n ≡ 0 → vec_capacity out.new ≡ vec_capacity out.old }
+    ensures held { result ≡ true → (0 < n) × IsHeld endpoint.now number (vec_len out.new + rest) (vec_len out.new) (vec_capacity out.new) }
+    ensures fits { result ≡ false → 0 < n → Fits endpoint.now number rest (vec_len out.new) (vec_capacity out.new) }
 {
+    if n == 0 {
+        return false;
+    }
     let most = due_within(endpoint, number, rest);
-    if most > rest || out.reserve(most).is_err() {
-        return Some(Filled::More);
-    }
-    match emit(endpoint, number, out) {
-        Ok(stopped) => stopped,
-        Err(_) => Some(Filled::More),
-    }
+    most > rest || out.reserve(most).is_err()
 }
 
 /// As [`fill`], and tells how many frames it appended.
@@ -129,12 +131,7 @@ pub fn fill_frames<A: Allocator>(
 {
     let sent = octets_sent(endpoint, number)?;
     let begun = out.len();
-    match emit(endpoint, number, out) {
-        Ok(None) => {}
-        Ok(Some(stopped)) => return Ok((0, stopped)),
-        Err(_) => return Err(Refusal::NoMemory),
-    }
-    'frames: for n in 1..u64::MAX {
+    'frames: for n in 0..u64::MAX {
         let filled = out.len() - begun;
         if filled > most {
             return Ok((n, Filled::More));
@@ -142,8 +139,16 @@ pub fn fill_frames<A: Allocator>(
         if filled as u64 > MAX_PLACE - sent {
             return Ok((n, Filled::More));
         }
-        if let Some(stopped) = emit_within(endpoint, number, out, most - filled) {
-            return Ok((n, stopped));
+        if is_held(endpoint, number, out, n, most - filled) {
+            return Ok((n, Filled::More));
+        }
+        match emit(endpoint, number, out) {
+            Ok(None) => {}
+            Ok(Some(stopped)) => {
+                return Ok((n, stopped));
+            }
+            Err(_) if n > 0 => return Ok((n, Filled::More)),
+            Err(_) => return Err(Refusal::NoMemory),
         }
     }
     // No buffer has as many octets.

@@ -499,6 +499,7 @@ impl<A: Allocator> Endpoint<A> {
     /// At most 2^62 octets may have been emitted before ([`Endpoint::sent`]). `Refused` means out of memory. It comes
     /// only if something would be appended: if `out` has no room for it, or if it begins a Read while none is
     /// outstanding (that takes memory for 16 of them). An `Err` changes nothing.
+    #[inline(always)]
     pub fn emit(
         &mut self,
         number: u32,
