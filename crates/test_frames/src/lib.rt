@@ -1,11 +1,9 @@
-//! Tests of the layers from octets up to frames, over their public interfaces: test vectors of other programs, frames
-//! computed by hand, and each call once with enough memory.
+//! Tests of the layers from octets up to frames, over their public interfaces: test vectors of other programs, and frames
+//! and start-up frames computed by hand. What a clause says of every value is not tested again.
 #![tactic(auto)]
 
 #[cfg(test)]
 mod fpdu;
-#[cfg(test)]
-mod located;
 #[cfg(test)]
 mod memory;
 #[cfg(test)]

@@ -31,39 +31,3 @@ fn octets_are_read_in_place(rt: HostRuntime) -> Result<(), Fail> {
     assert!(rt; !islands.came_in_place(5, 131_072));
     Ok(())
 }
-
-#[test]
-fn octets_are_read_in_place_past_a_gap(rt: HostRuntime) -> Result<(), Fail> {
-    let mut islands = Islands::new(rt.alloc())?;
-    assert_eq!(rt; islands.add(2, "cd".as_bytes())?, Delivery::Kept);
-    let ready = islands.make_room(3)?;
-    assert!(rt; ready);
-    islands.lend(3).copy_from_slice("efg".as_bytes());
-    assert!(rt; !islands.came_in_place(0, 2));
-    assert!(rt; islands.came_in_place(4, 2));
-    assert_eq!(rt; islands.missing(), 0);
-    assert_eq!(rt; islands.add(0, "ab".as_bytes())?, Delivery::Kept);
-    assert_eq!(rt; islands.missing(), 6);
-    assert_eq!(rt; islands.peek(0), b'a');
-    assert_eq!(rt; islands.peek(3), b'd');
-    assert_eq!(rt; islands.peek(4), b'e');
-    assert_eq!(rt; islands.peek(5), b'f');
-    Ok(())
-}
-
-#[test]
-fn what_came_is_given_up(rt: HostRuntime) -> Result<(), Fail> {
-    let mut islands = Islands::new(rt.alloc())?;
-    assert_eq!(rt; islands.add(0, "ab".as_bytes())?, Delivery::Kept);
-    let missing = islands.missing();
-    assert_eq!(rt; missing, 2);
-    islands.advance(missing);
-    assert_eq!(rt; islands.add(2, "c".as_bytes())?, Delivery::Kept);
-    assert_eq!(rt; islands.add(4, "ef".as_bytes())?, Delivery::Kept);
-    islands.give_up();
-    assert_eq!(rt; islands.memory(), 0);
-    assert_eq!(rt; islands.floor(), 2);
-    assert!(rt; !islands.came(2, 3));
-    assert!(rt; !islands.came(4, 5));
-    Ok(())
-}
