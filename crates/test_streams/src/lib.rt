@@ -1,5 +1,6 @@
 //! Tests of streams without end, over the public interface of `iw_endpoint`: which number each is given, what is answered
-//! once it was closed, which regions are its own, and that a call which is refused memory changes nothing.
+//! once it was closed, which regions are its own, and that a call which is refused memory changes nothing. Then of an
+//! allocator with a limit, and of an endpoint over one.
 #![tactic(auto)]
 
 #[cfg(test)]
@@ -12,5 +13,9 @@ mod ends;
 mod limited;
 #[cfg(test)]
 mod numbers;
+#[cfg(test)]
+mod quota;
+#[cfg(test)]
+mod quota_ends;
 #[cfg(test)]
 mod refused;

@@ -1,3 +1,4 @@
+//! Replays whose input or output fails, at each of its calls.
 use iw_program::{ReplayFault, Status, replay};
 use std::alloc::Global;
 use std::io::{ErrorKind, Read};
