@@ -109,6 +109,3 @@ pub extern "C" fn iwarp_add_domain(alloc: Global, handle: &mut Handle, pd: u32) 
 {
     code(handle.add_domain(alloc, domain_number(pd)).err())
 }
-
-#[cfg(test)]
-mod tests;
