@@ -1,4 +1,6 @@
-//! Tests of handles, called as C calls them: two of them joined in memory, buffers that change hands or are filled with frames, streams that are closed, places that are lent, marks of a pool, structs that begin with their size, and what is refused.
+//! Tests of handles, called as C calls them: two of them joined in memory, buffers that change hands or are filled with frames,
+//! streams that are closed, places that are lent, marks of a pool, and structs that begin with their size. Which refusal comes
+//! first, and that a refused call changes nothing, is in each call's clauses.
 #![tactic(auto)]
 
 #[cfg(test)]
@@ -13,7 +15,5 @@ mod joined;
 mod lending;
 #[cfg(test)]
 mod marking;
-#[cfg(test)]
-mod refused;
 #[cfg(test)]
 mod sized;

@@ -1,8 +1,7 @@
-//! Structs that begin with their size: what is told in them, what is posted by them, and which are refused.
+//! Structs that begin with their size: what is told in them, and what is posted by them.
 use iw_buffer::Buffer;
 use iw_handle::{
-    Handle, NO_EVENT, Options, PeerTold, Posting, Refusal, RegionFacts, RegionTold, Registration,
-    Told, code, stag_of,
+    Handle, NO_EVENT, Options, PeerTold, Posting, Refusal, RegionFacts, RegionTold, Told, stag_of,
 };
 use std::alloc::Global;
 use std::test::Fail;
@@ -86,23 +85,6 @@ fn peer(size: usize) -> PeerTold {
     }
 }
 
-// A region of domain 1 or, with flag 1, of the stream.
-fn registration(flags: u64, drawn: u32) -> Registration {
-    Registration {
-        size: size_of::<Registration>(),
-        flags,
-        base: 4096,
-        rights: 2,
-        pd: 1,
-        stream: STREAM,
-        drawn,
-        reserved_0: 1,
-        reserved_1: 1,
-        reserved_2: 1,
-        reserved_3: 1,
-    }
-}
-
 // A handle with an open stream and a region of 16 octets.
 fn ready(alloc: Global) -> Result<Handle, Fail> {
     let mut handle = Handle::closed(alloc);
@@ -111,29 +93,6 @@ fn ready(alloc: Global) -> Result<Handle, Fail> {
     handle.register(alloc, 1, 4096, &[0u8; 16], 5)?;
     handle.open_stream(alloc, STREAM, 1, 0, 0, b"")?;
     Ok(handle)
-}
-
-#[test]
-fn opened(rt: HostRuntime) -> Result<(), Fail> {
-    let alloc = rt.alloc();
-    let mut handle = Handle::closed(alloc);
-    assert_eq!(rt;
-        handle.open_as(alloc, &options(47, 0)),
-        Err(Refusal::BadStruct)
-    );
-    assert_eq!(rt;
-        handle.open_as(alloc, &options(48, 1)),
-        Err(Refusal::BadBits)
-    );
-    assert_eq!(rt; handle.add_domain(alloc, 1), Err(Refusal::Closed));
-    assert_eq!(rt; handle.open_as(alloc, &options(64, 0)), Ok(()));
-    assert_eq!(rt;
-        handle.open_as(alloc, &options(48, 0)),
-        Err(Refusal::AlreadyOpen)
-    );
-    assert_eq!(rt; handle.add_domain(alloc, 1), Ok(()));
-    assert_eq!(rt; code(Some(Refusal::BadStruct)), 40);
-    Ok(())
 }
 
 #[test]
@@ -281,112 +240,5 @@ fn posted_from_a_buffer(rt: HostRuntime) -> Result<(), Fail> {
     handle.fetch_sent(alloc, STREAM, &mut buffer)?;
     handle.post_buffer(alloc, STREAM, &posting(WRITE, 0), &mut buffer)?;
     assert_eq!(rt; frame(&mut handle, alloc, &mut out)?, 24);
-    Ok(())
-}
-
-#[test]
-fn refused(rt: HostRuntime) -> Result<(), Fail> {
-    let alloc = rt.alloc();
-    let mut handle = ready(alloc)?;
-    let mut short = posting(SEND, 0);
-    short.size = 87;
-    assert_eq!(rt;
-        handle.post(alloc, STREAM, &short, b"hi"),
-        Err(Refusal::BadStruct)
-    );
-    short.size = 88;
-    assert_eq!(rt;
-        handle.post(alloc, 1, &short, b"hi"),
-        Err(Refusal::NoSuchStream)
-    );
-    short.size = 1000;
-    assert_eq!(rt; handle.post(alloc, STREAM, &short, b"hi"), Ok(()));
-    assert_eq!(rt;
-        handle.post(alloc, STREAM, &posting(0, 0), b"hi"),
-        Err(Refusal::BadStruct)
-    );
-    assert_eq!(rt;
-        handle.post(alloc, STREAM, &posting(4, 0), b"hi"),
-        Err(Refusal::BadStruct)
-    );
-    assert_eq!(rt;
-        handle.post(alloc, STREAM, &posting(WRITE, 1), b"hi"),
-        Err(Refusal::BadBits)
-    );
-    assert_eq!(rt;
-        handle.post(alloc, STREAM, &posting(READ, 2), b""),
-        Err(Refusal::BadBits)
-    );
-    assert_eq!(rt;
-        handle.post(alloc, STREAM, &posting(SEND, 1 << 32), b""),
-        Err(Refusal::BadBits)
-    );
-    Ok(())
-}
-
-// Bits 1,000 + 1,024 * 200 draw slot 1,000, and of a slot that was not used key 200. The next STag is that of slot 1.
-#[test]
-fn registered(rt: HostRuntime) -> Result<(), Fail> {
-    let alloc = rt.alloc();
-    let mut handle = ready(alloc)?;
-    let drawn = 1000 + 1024 * 200;
-    let stag = handle.register_as(alloc, &registration(2, drawn), b"one")?;
-    assert_eq!(rt; stag, stag_of(0x0103e8c8));
-    handle.drop_region(alloc, stag)?;
-    // The key is not the slot's last one: it counts on from there.
-    let stag = handle.register_as(alloc, &registration(2, drawn), b"two")?;
-    assert_eq!(rt; stag, stag_of(0x0103e891));
-    let mut buffer = Buffer::none(alloc);
-    buffer.make(alloc, 3)?;
-    let stag = handle.register_buffer_as(alloc, &registration(3, drawn), &mut buffer)?;
-    assert_eq!(rt; stag, stag_of(0x0103e9c8));
-    let facts = handle.facts(alloc, stag)?;
-    assert_eq!(rt; facts.bound, Some(STREAM));
-    assert_eq!(rt; facts.base, 4096);
-    let stag = handle.register_as(alloc, &registration(0, drawn), b"next")?;
-    assert_eq!(rt; stag, stag_of(0x01000100));
-    let stag = handle.register_as(alloc, &registration(1, drawn), b"next")?;
-    assert_eq!(rt; stag, stag_of(0x01000200));
-    Ok(())
-}
-
-#[test]
-fn registered_wrongly(rt: HostRuntime) -> Result<(), Fail> {
-    let alloc = rt.alloc();
-    let mut handle = ready(alloc)?;
-    let mut described = registration(4, 0);
-    described.size = 71;
-    assert_eq!(rt;
-        handle.register_as(alloc, &described, b""),
-        Err(Refusal::BadStruct)
-    );
-    described.size = 72;
-    assert_eq!(rt;
-        handle.register_as(alloc, &described, b""),
-        Err(Refusal::BadBits)
-    );
-    described.flags = 3;
-    described.rights = 16;
-    assert_eq!(rt;
-        handle.register_as(alloc, &described, b""),
-        Err(Refusal::BadBits)
-    );
-    described.rights = 15;
-    described.stream = 9;
-    assert_eq!(rt;
-        handle.register_as(alloc, &described, b""),
-        Err(Refusal::NoSuchStream)
-    );
-    let mut buffer = Buffer::none(alloc);
-    assert_eq!(rt;
-        handle.register_buffer_as(alloc, &described, &mut buffer),
-        Err(Refusal::NoBuffer)
-    );
-    described.flags = 2;
-    described.pd = 257;
-    assert_eq!(rt;
-        handle.register_as(alloc, &described, b""),
-        Err(Refusal::NoDomain)
-    );
     Ok(())
 }
