@@ -12,6 +12,8 @@ mod ends;
 #[cfg(test)]
 mod limited;
 #[cfg(test)]
+mod lines;
+#[cfg(test)]
 mod numbers;
 #[cfg(test)]
 mod quota;

@@ -1,7 +1,8 @@
 //! Which numbers are given, and what is answered once a stream was closed.
 
 use crate::calls::Calls;
-use std::alloc::Global;
+use crate::lines::parts;
+use std::alloc::{AllocError, Global};
 use std::test::Fail;
 use test_support::FailsAt;
 
@@ -90,23 +91,30 @@ break_link 66 ok
 close 66 ok";
 
 // Makes the call of a line, and says whether it answered so.
-fn answers(calls: &mut Calls<'_>, line: &str) -> Result<bool, Fail> {
-    let (call, rest) = line.split_once(' ').ok_or("a call")?;
-    let (number, answer) = rest.split_once(' ').ok_or("an answer")?;
-    let number = number.parse::<u32>().ok().ok_or("a number")?;
-    Ok(calls.call(call, number)?.is_told(answer))
+fn answers(calls: &mut Calls<'_>, line: &str) -> Result<bool, AllocError> {
+    match parts(line) {
+        Some((call, number, answer)) => Ok(calls.call(call, number)?.is_told(answer)),
+        None => Ok(false),
+    }
 }
 
-// Makes the calls at a new endpoint. Returns how many answered so, before one did not.
-fn answered(alloc: Global, lines: &str) -> Result<usize, Fail> {
+// Makes the calls. Returns how many answered so, before one did not.
+fn answered_by(calls: &mut Calls<'_>, lines: &str) -> Result<usize, AllocError> {
+    let mut count = 0usize;
+    for line in lines.lines() {
+        if !answers(calls, line)? {
+            break;
+        }
+        count = count.saturating_add(1);
+    }
+    Ok(count)
+}
+
+// The same at a new endpoint.
+fn answered(alloc: Global, lines: &str) -> Result<usize, AllocError> {
     let heap = FailsAt::new(alloc, u64::MAX);
     let mut calls = Calls::new(&heap)?;
-    for (n, line) in lines.lines().enumerate() {
-        if !answers(&mut calls, line)? {
-            return Ok(n);
-        }
-    }
-    Ok(lines.lines().count())
+    answered_by(&mut calls, lines)
 }
 
 #[test]
