@@ -1,6 +1,7 @@
 //! Reads that ask for less than comes.
 
 use crate::end::{End, STREAM};
+use crate::made::made;
 use crate::reads::Written;
 use iw_connection::{CallRefusal, Intake, take_some};
 use iw_endpoint::{MOST_READ, Role};
@@ -57,20 +58,20 @@ fn a_read_that_would_block_is_made_again(rt: HostRuntime) -> Result<(), Fail> {
     let mut end = End::open(rt.alloc(), Role::Preset)?;
     let mut socket = Halting::new([9u8; 20].as_slice(), 20).failing_at(2, ErrorKind::WouldBlock);
     assert_eq!(rt;
-        take_some(&mut end.endpoint, STREAM, &mut socket, 7)?,
+        made(take_some(&mut end.endpoint, STREAM, &mut socket, 7))?,
         Intake::Came(7)
     );
     assert!(rt; is_blocked(take_some(&mut end.endpoint, STREAM, &mut socket, 7)));
     assert_eq!(rt;
-        take_some(&mut end.endpoint, STREAM, &mut socket, 7)?,
+        made(take_some(&mut end.endpoint, STREAM, &mut socket, 7))?,
         Intake::Came(7)
     );
     assert_eq!(rt;
-        take_some(&mut end.endpoint, STREAM, &mut socket, 7)?,
+        made(take_some(&mut end.endpoint, STREAM, &mut socket, 7))?,
         Intake::Came(6)
     );
     assert_eq!(rt;
-        take_some(&mut end.endpoint, STREAM, &mut socket, 7)?,
+        made(take_some(&mut end.endpoint, STREAM, &mut socket, 7))?,
         Intake::End
     );
     Ok(())
@@ -83,19 +84,19 @@ fn a_stream_that_has_ended_drops_what_was_asked_for(rt: HostRuntime) -> Result<(
     let octets = [9u8; 20];
     let mut rest = octets.as_slice();
     assert_eq!(rt;
-        take_some(&mut end.endpoint, STREAM, &mut rest, 0)?,
+        made(take_some(&mut end.endpoint, STREAM, &mut rest, 0))?,
         Intake::Came(1)
     );
     assert_eq!(rt;
-        take_some(&mut end.endpoint, STREAM, &mut rest, 12)?,
+        made(take_some(&mut end.endpoint, STREAM, &mut rest, 12))?,
         Intake::Came(12)
     );
     assert_eq!(rt;
-        take_some(&mut end.endpoint, STREAM, &mut rest, 12)?,
+        made(take_some(&mut end.endpoint, STREAM, &mut rest, 12))?,
         Intake::Came(7)
     );
     assert_eq!(rt;
-        take_some(&mut end.endpoint, STREAM, &mut rest, 12)?,
+        made(take_some(&mut end.endpoint, STREAM, &mut rest, 12))?,
         Intake::End
     );
     Ok(())

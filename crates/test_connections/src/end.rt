@@ -1,5 +1,6 @@
 //! One end of a connection, with the loop of docs/EMBEDDING.md.
 
+use crate::made::made;
 use bytes::Bytes;
 use iw_connection::{
     Endpoint, Filled, Intake, Octets, Step, StreamNumber, break_link, fill, next, take, take_some,
@@ -55,16 +56,15 @@ impl End {
             establishment: Establishment::Plain,
             private: PrivateData::new(),
         };
-        self.endpoint.add_domain(DOMAIN)?;
-        self.endpoint.open(STREAM, DOMAIN, role, config)?;
-        self.endpoint.post_recv(STREAM, vec![in alloc; 0u8; 16]?)?;
-        Ok(())
+        made(self.endpoint.add_domain(DOMAIN))?;
+        made(self.endpoint.open(STREAM, DOMAIN, role, config))?;
+        let buffer = vec![in alloc; 0u8; 16]?;
+        made(self.endpoint.post_recv(STREAM, buffer))
     }
 
     /// The longest frames that there can be.
     pub(crate) fn with_long_frames(&mut self) -> Result<(), Fail> {
-        self.endpoint.set_mulpdu(STREAM, 64_512)?;
-        Ok(())
+        made(self.endpoint.set_mulpdu(STREAM, 64_512))
     }
 
     /// Registers octets that the peer may write and read, and into which this end may read.
@@ -75,7 +75,7 @@ impl End {
             sink: true,
             invalidate: false,
         };
-        Ok(self.endpoint.register(DOMAIN, 0, octets, rights)?)
+        made(self.endpoint.register(DOMAIN, 0, octets, rights))
     }
 
     pub(crate) fn write(&mut self, stag: Stag, octets: Bytes) -> Result<(), Fail> {
@@ -84,8 +84,7 @@ impl End {
             to: 0,
             octets,
         };
-        self.endpoint.post(STREAM, Request::Message(write))?;
-        Ok(())
+        made(self.endpoint.post(STREAM, Request::Message(write)))
     }
 
     /// Posts a Send without octets.
@@ -95,8 +94,7 @@ impl End {
             solicited: false,
             invalidate: None,
         };
-        self.endpoint.post(STREAM, Request::Message(send))?;
-        Ok(())
+        made(self.endpoint.post(STREAM, Request::Message(send)))
     }
 
     pub(crate) fn read(&mut self, sink: Stag, source: Stag, size: u32) -> Result<(), Fail> {
@@ -107,8 +105,7 @@ impl End {
             source,
             source_to: 0,
         };
-        self.endpoint.post(STREAM, Request::Read(read))?;
-        Ok(())
+        made(self.endpoint.post(STREAM, Request::Read(read)))
     }
 
     /// Whether a region has these octets.
@@ -118,7 +115,7 @@ impl End {
 
     /// The socket is readable.
     pub(crate) fn is_readable<S: Read>(&mut self, socket: &mut S) -> Result<Intake, Fail> {
-        let intake = take(&mut self.endpoint, STREAM, socket)?;
+        let intake = made(take(&mut self.endpoint, STREAM, socket))?;
         self.act()?;
         Ok(intake)
     }
@@ -129,27 +126,27 @@ impl End {
         socket: &mut S,
         most: usize,
     ) -> Result<Intake, Fail> {
-        let intake = take_some(&mut self.endpoint, STREAM, socket, most)?;
+        let intake = made(take_some(&mut self.endpoint, STREAM, socket, most))?;
         self.act()?;
         Ok(intake)
     }
 
     /// The socket is writable: appends what is to be written, about `most` octets. Returns whether more may be due.
     pub(crate) fn is_writable(&mut self, out: &mut Vec<u8>, most: usize) -> Result<bool, Fail> {
-        let filled = fill(&mut self.endpoint, STREAM, out, most)?;
+        let filled = made(fill(&mut self.endpoint, STREAM, out, most))?;
         self.act()?;
         Ok(filled != Filled::All)
     }
 
     /// The connection closed.
     pub(crate) fn closed(&mut self) -> Result<(), Fail> {
-        break_link(&mut self.endpoint, STREAM)?;
+        made(break_link(&mut self.endpoint, STREAM))?;
         self.act()
     }
 
     fn act(&mut self) -> Result<(), Fail> {
         for _ in 0..u64::MAX {
-            match next(&mut self.endpoint, STREAM)? {
+            match made(next(&mut self.endpoint, STREAM))? {
                 Step::Idle => break,
                 step => self.act_on(step)?,
             }
@@ -167,8 +164,7 @@ impl End {
             }
             Step::Received { buffer, .. } => {
                 seen.received = seen.received.saturating_add(1);
-                self.endpoint.post_recv(STREAM, buffer.into_vec())?;
-                Ok(())
+                made(self.endpoint.post_recv(STREAM, buffer.into_vec()))
             }
             Step::Done(_) => {
                 seen.done = seen.done.saturating_add(1);
@@ -186,7 +182,7 @@ impl End {
     }
 
     fn accept(&mut self) -> Result<(), Fail> {
-        self.endpoint.accept(STREAM, PrivateData::new())?;
+        made(self.endpoint.accept(STREAM, PrivateData::new()))?;
         self.seen.is_open = true;
         Ok(())
     }

@@ -9,6 +9,8 @@ mod carried;
 #[cfg(test)]
 mod end;
 #[cfg(test)]
+mod made;
+#[cfg(test)]
 mod reads;
 #[cfg(test)]
 mod shares;

@@ -1,5 +1,6 @@
 //! Streams of one domain that share a pool, each with a share of its buffers.
 
+use crate::made::made;
 use bytes::Bytes;
 use iw_connection::{
     Endpoint, Octets, Step, StreamNumber, fill, is_above_mark, next, next_marked, next_within,
@@ -83,14 +84,12 @@ fn post(endpoint: &mut Endpoint, alloc: Global) -> Result<(), Fail> {
         solicited: false,
         invalidate: None,
     };
-    endpoint.post(GREEDY, Request::Message(send))?;
-    Ok(())
+    made(endpoint.post(GREEDY, Request::Message(send)))
 }
 
 fn open_sender(endpoint: &mut Endpoint) -> Result<(), Fail> {
-    endpoint.add_domain(DOMAIN)?;
-    endpoint.open(GREEDY, DOMAIN, Role::Preset, config())?;
-    Ok(())
+    made(endpoint.add_domain(DOMAIN))?;
+    made(endpoint.open(GREEDY, DOMAIN, Role::Preset, config()))
 }
 
 fn post_all(endpoint: &mut Endpoint, alloc: Global, n: u32) -> Result<(), Fail> {
@@ -102,7 +101,7 @@ fn post_all(endpoint: &mut Endpoint, alloc: Global, n: u32) -> Result<(), Fail> 
 
 fn frames(endpoint: &mut Endpoint, alloc: Global, most: usize) -> Result<Vec<u8>, Fail> {
     let mut out = Vec::new(alloc);
-    fill(endpoint, GREEDY, &mut out, most)?;
+    made(fill(endpoint, GREEDY, &mut out, most))?;
     Ok(out)
 }
 
@@ -122,18 +121,18 @@ fn sends(alloc: Global, n: u32) -> Result<Wire, Fail> {
 
 fn post_buffers(endpoint: &mut Endpoint, alloc: Global) -> Result<(), Fail> {
     for _ in 0..POOL {
-        endpoint.post_shared(DOMAIN, vec![in alloc; 0u8; 16]?)?;
+        let buffer = vec![in alloc; 0u8; 16]?;
+        made(endpoint.post_shared(DOMAIN, buffer))?;
     }
     Ok(())
 }
 
 // Two streams that share a pool.
 fn open_both(endpoint: &mut Endpoint) -> Result<(), Fail> {
-    endpoint.add_domain(DOMAIN)?;
-    endpoint.share(DOMAIN)?;
-    endpoint.open_shared(GREEDY, DOMAIN, Role::Preset, config())?;
-    endpoint.open_shared(MODEST, DOMAIN, Role::Preset, config())?;
-    Ok(())
+    made(endpoint.add_domain(DOMAIN))?;
+    made(endpoint.share(DOMAIN))?;
+    made(endpoint.open_shared(GREEDY, DOMAIN, Role::Preset, config()))?;
+    made(endpoint.open_shared(MODEST, DOMAIN, Role::Preset, config()))
 }
 
 // The next step. Without a share the stream may have the whole pool.
@@ -143,8 +142,8 @@ fn stepped(
     share: Option<usize>,
 ) -> Result<Step<Octets>, Fail> {
     match share {
-        Some(share) => Ok(next_within(endpoint, number, share)?),
-        None => Ok(next(endpoint, number)?),
+        Some(share) => made(next_within(endpoint, number, share)),
+        None => made(next(endpoint, number)),
     }
 }
 
@@ -165,7 +164,7 @@ fn worked(
 
 // All but the first frame come, and are placed before their turn.
 fn behind_a_hole(endpoint: &mut Endpoint, wire: &Wire, share: Option<usize>) -> Result<Seen, Fail> {
-    endpoint.deliver(GREEDY, wire.second(), wire.others.as_slice())?;
+    made(endpoint.deliver(GREEDY, wire.second(), wire.others.as_slice()))?;
     worked(endpoint, GREEDY, share)
 }
 
@@ -174,13 +173,13 @@ fn with_the_first(
     wire: &Wire,
     share: Option<usize>,
 ) -> Result<Seen, Fail> {
-    endpoint.deliver(GREEDY, 0, wire.first.as_slice())?;
+    made(endpoint.deliver(GREEDY, 0, wire.first.as_slice()))?;
     worked(endpoint, GREEDY, share)
 }
 
 fn in_order(endpoint: &mut Endpoint, wire: &Wire, share: Option<usize>) -> Result<Seen, Fail> {
-    endpoint.deliver(MODEST, 0, wire.first.as_slice())?;
-    endpoint.deliver(MODEST, wire.second(), wire.others.as_slice())?;
+    made(endpoint.deliver(MODEST, 0, wire.first.as_slice()))?;
+    made(endpoint.deliver(MODEST, wire.second(), wire.others.as_slice()))?;
     worked(endpoint, MODEST, share)
 }
 
@@ -191,7 +190,7 @@ fn told_story(
     share: Option<usize>,
 ) -> Result<Story, Fail> {
     let hole = behind_a_hole(endpoint, many, share)?;
-    let bound = endpoint.bound_buffers(GREEDY)?;
+    let bound = made(endpoint.bound_buffers(GREEDY))?;
     let ended = with_the_first(endpoint, many, share)?;
     let modest = in_order(endpoint, few, share)?;
     Ok(Story {
@@ -266,8 +265,8 @@ fn a_share_of_one_is_enough_in_order(rt: HostRuntime) -> Result<(), Fail> {
 fn marked(endpoint: &mut Endpoint, alloc: Global, mark: usize) -> Result<Vec<usize>, Fail> {
     let mut bound = Vec::new(alloc);
     for _ in 0..u64::MAX {
-        match next_marked(endpoint, GREEDY, usize::MAX, mark)? {
-            Step::Buffered { .. } => bound.push(endpoint.bound_buffers(GREEDY)?)?,
+        match made(next_marked(endpoint, GREEDY, usize::MAX, mark))? {
+            Step::Buffered { .. } => bound.push(made(endpoint.bound_buffers(GREEDY))?)?,
             Step::Idle => break,
             _ => {}
         }
@@ -282,7 +281,7 @@ fn a_stream_that_takes_more_than_a_mark_is_told_once(rt: HostRuntime) -> Result<
     let mut endpoint = Endpoint::new(alloc);
     open_both(&mut endpoint)?;
     post_buffers(&mut endpoint, alloc)?;
-    endpoint.deliver(GREEDY, wire.second(), wire.others.as_slice())?;
+    made(endpoint.deliver(GREEDY, wire.second(), wire.others.as_slice()))?;
     assert_eq!(rt; marked(&mut endpoint, alloc, 3)?.as_slice(), [4].as_slice());
     // It took the whole pool.
     assert!(rt; is_above_mark(&endpoint, GREEDY, 7));

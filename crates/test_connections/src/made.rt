@@ -1,0 +1,11 @@
+//! Calls that are not to be refused.
+
+use std::test::Fail;
+
+/// What a call gave. A refusal is let go, and fails the test.
+pub(crate) fn made<T: Drop, E: Drop>(outcome: Result<T, E>) -> Result<T, Fail> {
+    match outcome {
+        Ok(given) => Ok(given),
+        Err(_) => Err("a call was refused".into()),
+    }
+}
