@@ -1,7 +1,6 @@
 //! Reads that ask for less than comes.
 
 use crate::end::{End, STREAM};
-use crate::made::made;
 use crate::reads::Written;
 use iw_connection::{CallRefusal, Intake, take_some};
 use iw_endpoint::{MOST_READ, Role};
@@ -58,20 +57,20 @@ fn a_read_that_would_block_is_made_again(rt: HostRuntime) -> Result<(), Fail> {
     let mut end = End::open(rt.alloc(), Role::Preset)?;
     let mut socket = Halting::new([9u8; 20].as_slice(), 20).failing_at(2, ErrorKind::WouldBlock);
     assert_eq!(rt;
-        made(take_some(&mut end.endpoint, STREAM, &mut socket, 7))?,
+        take_some(&mut end.endpoint, STREAM, &mut socket, 7)?,
         Intake::Came(7)
     );
     assert!(rt; is_blocked(take_some(&mut end.endpoint, STREAM, &mut socket, 7)));
     assert_eq!(rt;
-        made(take_some(&mut end.endpoint, STREAM, &mut socket, 7))?,
+        take_some(&mut end.endpoint, STREAM, &mut socket, 7)?,
         Intake::Came(7)
     );
     assert_eq!(rt;
-        made(take_some(&mut end.endpoint, STREAM, &mut socket, 7))?,
+        take_some(&mut end.endpoint, STREAM, &mut socket, 7)?,
         Intake::Came(6)
     );
     assert_eq!(rt;
-        made(take_some(&mut end.endpoint, STREAM, &mut socket, 7))?,
+        take_some(&mut end.endpoint, STREAM, &mut socket, 7)?,
         Intake::End
     );
     Ok(())
@@ -84,19 +83,19 @@ fn a_stream_that_has_ended_drops_what_was_asked_for(rt: HostRuntime) -> Result<(
     let octets = [9u8; 20];
     let mut rest = octets.as_slice();
     assert_eq!(rt;
-        made(take_some(&mut end.endpoint, STREAM, &mut rest, 0))?,
+        take_some(&mut end.endpoint, STREAM, &mut rest, 0)?,
         Intake::Came(1)
     );
     assert_eq!(rt;
-        made(take_some(&mut end.endpoint, STREAM, &mut rest, 12))?,
+        take_some(&mut end.endpoint, STREAM, &mut rest, 12)?,
         Intake::Came(12)
     );
     assert_eq!(rt;
-        made(take_some(&mut end.endpoint, STREAM, &mut rest, 12))?,
+        take_some(&mut end.endpoint, STREAM, &mut rest, 12)?,
         Intake::Came(7)
     );
     assert_eq!(rt;
-        made(take_some(&mut end.endpoint, STREAM, &mut rest, 12))?,
+        take_some(&mut end.endpoint, STREAM, &mut rest, 12)?,
         Intake::End
     );
     Ok(())

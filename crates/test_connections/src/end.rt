@@ -56,15 +56,15 @@ impl End {
             establishment: Establishment::Plain,
             private: PrivateData::new(),
         };
-        made(self.endpoint.add_domain(DOMAIN))?;
-        made(self.endpoint.open(STREAM, DOMAIN, role, config))?;
+        made("add_domain", self.endpoint.add_domain(DOMAIN))?;
+        made("open", self.endpoint.open(STREAM, DOMAIN, role, config))?;
         let buffer = vec![in alloc; 0u8; 16]?;
-        made(self.endpoint.post_recv(STREAM, buffer))
+        made("post_recv", self.endpoint.post_recv(STREAM, buffer))
     }
 
     /// The longest frames that there can be.
     pub(crate) fn with_long_frames(&mut self) -> Result<(), Fail> {
-        made(self.endpoint.set_mulpdu(STREAM, 64_512))
+        made("set_mulpdu", self.endpoint.set_mulpdu(STREAM, 64_512))
     }
 
     /// Registers octets that the peer may write and read, and into which this end may read.
@@ -75,7 +75,10 @@ impl End {
             sink: true,
             invalidate: false,
         };
-        made(self.endpoint.register(DOMAIN, 0, octets, rights))
+        made(
+            "register",
+            self.endpoint.register(DOMAIN, 0, octets, rights),
+        )
     }
 
     pub(crate) fn write(&mut self, stag: Stag, octets: Bytes) -> Result<(), Fail> {
@@ -84,7 +87,7 @@ impl End {
             to: 0,
             octets,
         };
-        made(self.endpoint.post(STREAM, Request::Message(write)))
+        made("post", self.endpoint.post(STREAM, Request::Message(write)))
     }
 
     /// Posts a Send without octets.
@@ -94,7 +97,7 @@ impl End {
             solicited: false,
             invalidate: None,
         };
-        made(self.endpoint.post(STREAM, Request::Message(send)))
+        made("post", self.endpoint.post(STREAM, Request::Message(send)))
     }
 
     pub(crate) fn read(&mut self, sink: Stag, source: Stag, size: u32) -> Result<(), Fail> {
@@ -105,7 +108,7 @@ impl End {
             source,
             source_to: 0,
         };
-        made(self.endpoint.post(STREAM, Request::Read(read)))
+        made("post", self.endpoint.post(STREAM, Request::Read(read)))
     }
 
     /// Whether a region has these octets.
@@ -115,7 +118,7 @@ impl End {
 
     /// The socket is readable.
     pub(crate) fn is_readable<S: Read>(&mut self, socket: &mut S) -> Result<Intake, Fail> {
-        let intake = made(take(&mut self.endpoint, STREAM, socket))?;
+        let intake = made("take", take(&mut self.endpoint, STREAM, socket))?;
         self.act()?;
         Ok(intake)
     }
@@ -126,27 +129,30 @@ impl End {
         socket: &mut S,
         most: usize,
     ) -> Result<Intake, Fail> {
-        let intake = made(take_some(&mut self.endpoint, STREAM, socket, most))?;
+        let intake = made(
+            "take_some",
+            take_some(&mut self.endpoint, STREAM, socket, most),
+        )?;
         self.act()?;
         Ok(intake)
     }
 
     /// The socket is writable: appends what is to be written, about `most` octets. Returns whether more may be due.
     pub(crate) fn is_writable(&mut self, out: &mut Vec<u8>, most: usize) -> Result<bool, Fail> {
-        let filled = made(fill(&mut self.endpoint, STREAM, out, most))?;
+        let filled = made("fill", fill(&mut self.endpoint, STREAM, out, most))?;
         self.act()?;
         Ok(filled != Filled::All)
     }
 
     /// The connection closed.
     pub(crate) fn closed(&mut self) -> Result<(), Fail> {
-        made(break_link(&mut self.endpoint, STREAM))?;
+        made("break_link", break_link(&mut self.endpoint, STREAM))?;
         self.act()
     }
 
     fn act(&mut self) -> Result<(), Fail> {
         for _ in 0..u64::MAX {
-            match made(next(&mut self.endpoint, STREAM))? {
+            match made("next", next(&mut self.endpoint, STREAM))? {
                 Step::Idle => break,
                 step => self.act_on(step)?,
             }
@@ -164,7 +170,10 @@ impl End {
             }
             Step::Received { buffer, .. } => {
                 seen.received = seen.received.saturating_add(1);
-                made(self.endpoint.post_recv(STREAM, buffer.into_vec()))
+                made(
+                    "post_recv",
+                    self.endpoint.post_recv(STREAM, buffer.into_vec()),
+                )
             }
             Step::Done(_) => {
                 seen.done = seen.done.saturating_add(1);
@@ -182,7 +191,7 @@ impl End {
     }
 
     fn accept(&mut self) -> Result<(), Fail> {
-        made(self.endpoint.accept(STREAM, PrivateData::new()))?;
+        made("accept", self.endpoint.accept(STREAM, PrivateData::new()))?;
         self.seen.is_open = true;
         Ok(())
     }

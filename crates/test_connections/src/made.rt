@@ -2,10 +2,10 @@
 
 use std::test::Fail;
 
-/// What a call gave. A refusal is let go, and fails the test.
-pub(crate) fn made<T: Drop, E: Drop>(outcome: Result<T, E>) -> Result<T, Fail> {
+/// What a call gave. A refusal is let go, and fails the test, which then names the call.
+pub(crate) fn made<T: Drop, E: Drop>(call: &'static str, outcome: Result<T, E>) -> Result<T, Fail> {
     match outcome {
         Ok(given) => Ok(given),
-        Err(_) => Err("a call was refused".into()),
+        Err(_) => Err(call.into()),
     }
 }

@@ -84,12 +84,15 @@ fn post(endpoint: &mut Endpoint, alloc: Global) -> Result<(), Fail> {
         solicited: false,
         invalidate: None,
     };
-    made(endpoint.post(GREEDY, Request::Message(send)))
+    made("post", endpoint.post(GREEDY, Request::Message(send)))
 }
 
 fn open_sender(endpoint: &mut Endpoint) -> Result<(), Fail> {
-    made(endpoint.add_domain(DOMAIN))?;
-    made(endpoint.open(GREEDY, DOMAIN, Role::Preset, config()))
+    made("add_domain", endpoint.add_domain(DOMAIN))?;
+    made(
+        "open",
+        endpoint.open(GREEDY, DOMAIN, Role::Preset, config()),
+    )
 }
 
 fn post_all(endpoint: &mut Endpoint, alloc: Global, n: u32) -> Result<(), Fail> {
@@ -101,7 +104,7 @@ fn post_all(endpoint: &mut Endpoint, alloc: Global, n: u32) -> Result<(), Fail> 
 
 fn frames(endpoint: &mut Endpoint, alloc: Global, most: usize) -> Result<Vec<u8>, Fail> {
     let mut out = Vec::new(alloc);
-    made(fill(endpoint, GREEDY, &mut out, most))?;
+    made("fill", fill(endpoint, GREEDY, &mut out, most))?;
     Ok(out)
 }
 
@@ -122,17 +125,23 @@ fn sends(alloc: Global, n: u32) -> Result<Wire, Fail> {
 fn post_buffers(endpoint: &mut Endpoint, alloc: Global) -> Result<(), Fail> {
     for _ in 0..POOL {
         let buffer = vec![in alloc; 0u8; 16]?;
-        made(endpoint.post_shared(DOMAIN, buffer))?;
+        made("post_shared", endpoint.post_shared(DOMAIN, buffer))?;
     }
     Ok(())
 }
 
 // Two streams that share a pool.
 fn open_both(endpoint: &mut Endpoint) -> Result<(), Fail> {
-    made(endpoint.add_domain(DOMAIN))?;
-    made(endpoint.share(DOMAIN))?;
-    made(endpoint.open_shared(GREEDY, DOMAIN, Role::Preset, config()))?;
-    made(endpoint.open_shared(MODEST, DOMAIN, Role::Preset, config()))
+    made("add_domain", endpoint.add_domain(DOMAIN))?;
+    made("share", endpoint.share(DOMAIN))?;
+    made(
+        "open_shared",
+        endpoint.open_shared(GREEDY, DOMAIN, Role::Preset, config()),
+    )?;
+    made(
+        "open_shared",
+        endpoint.open_shared(MODEST, DOMAIN, Role::Preset, config()),
+    )
 }
 
 // The next step. Without a share the stream may have the whole pool.
@@ -142,8 +151,8 @@ fn stepped(
     share: Option<usize>,
 ) -> Result<Step<Octets>, Fail> {
     match share {
-        Some(share) => made(next_within(endpoint, number, share)),
-        None => made(next(endpoint, number)),
+        Some(share) => made("next_within", next_within(endpoint, number, share)),
+        None => made("next", next(endpoint, number)),
     }
 }
 
@@ -164,7 +173,10 @@ fn worked(
 
 // All but the first frame come, and are placed before their turn.
 fn behind_a_hole(endpoint: &mut Endpoint, wire: &Wire, share: Option<usize>) -> Result<Seen, Fail> {
-    made(endpoint.deliver(GREEDY, wire.second(), wire.others.as_slice()))?;
+    made(
+        "deliver",
+        endpoint.deliver(GREEDY, wire.second(), wire.others.as_slice()),
+    )?;
     worked(endpoint, GREEDY, share)
 }
 
@@ -173,13 +185,22 @@ fn with_the_first(
     wire: &Wire,
     share: Option<usize>,
 ) -> Result<Seen, Fail> {
-    made(endpoint.deliver(GREEDY, 0, wire.first.as_slice()))?;
+    made(
+        "deliver",
+        endpoint.deliver(GREEDY, 0, wire.first.as_slice()),
+    )?;
     worked(endpoint, GREEDY, share)
 }
 
 fn in_order(endpoint: &mut Endpoint, wire: &Wire, share: Option<usize>) -> Result<Seen, Fail> {
-    made(endpoint.deliver(MODEST, 0, wire.first.as_slice()))?;
-    made(endpoint.deliver(MODEST, wire.second(), wire.others.as_slice()))?;
+    made(
+        "deliver",
+        endpoint.deliver(MODEST, 0, wire.first.as_slice()),
+    )?;
+    made(
+        "deliver",
+        endpoint.deliver(MODEST, wire.second(), wire.others.as_slice()),
+    )?;
     worked(endpoint, MODEST, share)
 }
 
@@ -190,7 +211,7 @@ fn told_story(
     share: Option<usize>,
 ) -> Result<Story, Fail> {
     let hole = behind_a_hole(endpoint, many, share)?;
-    let bound = made(endpoint.bound_buffers(GREEDY))?;
+    let bound = made("bound_buffers", endpoint.bound_buffers(GREEDY))?;
     let ended = with_the_first(endpoint, many, share)?;
     let modest = in_order(endpoint, few, share)?;
     Ok(Story {
@@ -265,8 +286,14 @@ fn a_share_of_one_is_enough_in_order(rt: HostRuntime) -> Result<(), Fail> {
 fn marked(endpoint: &mut Endpoint, alloc: Global, mark: usize) -> Result<Vec<usize>, Fail> {
     let mut bound = Vec::new(alloc);
     for _ in 0..u64::MAX {
-        match made(next_marked(endpoint, GREEDY, usize::MAX, mark))? {
-            Step::Buffered { .. } => bound.push(made(endpoint.bound_buffers(GREEDY))?)?,
+        match made(
+            "next_marked",
+            next_marked(endpoint, GREEDY, usize::MAX, mark),
+        )? {
+            Step::Buffered { .. } => bound.push(made(
+                "bound_buffers",
+                endpoint.bound_buffers(GREEDY),
+            )?)?,
             Step::Idle => break,
             _ => {}
         }
@@ -281,7 +308,10 @@ fn a_stream_that_takes_more_than_a_mark_is_told_once(rt: HostRuntime) -> Result<
     let mut endpoint = Endpoint::new(alloc);
     open_both(&mut endpoint)?;
     post_buffers(&mut endpoint, alloc)?;
-    made(endpoint.deliver(GREEDY, wire.second(), wire.others.as_slice()))?;
+    made(
+        "deliver",
+        endpoint.deliver(GREEDY, wire.second(), wire.others.as_slice()),
+    )?;
     assert_eq!(rt; marked(&mut endpoint, alloc, 3)?.as_slice(), [4].as_slice());
     // It took the whole pool.
     assert!(rt; is_above_mark(&endpoint, GREEDY, 7));
