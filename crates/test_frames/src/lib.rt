@@ -1,5 +1,5 @@
 //! Tests of the layers from octets up to frames, over their public interfaces: test vectors of other programs, and frames
-//! and start-up frames computed by hand. What a clause says of every value is not tested again.
+//! and start-up frames computed by hand.
 #![tactic(auto)]
 
 #[cfg(test)]

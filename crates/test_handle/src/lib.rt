@@ -1,6 +1,6 @@
 //! Tests of handles, called as C calls them: two of them joined in memory, buffers that change hands or are filled with frames,
-//! streams that are closed, places that are lent, marks of a pool, and structs that begin with their size. Which refusal comes
-//! first, and that a refused call changes nothing, is in each call's clauses.
+//! streams that are closed, places that are lent, marks of a pool, and structs that begin with their size. What a call refuses,
+//! and what a refusal leaves, is in its clauses.
 #![tactic(auto)]
 
 #[cfg(test)]
