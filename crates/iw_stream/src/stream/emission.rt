@@ -140,6 +140,7 @@ impl<A: Allocator> Stream<A> {
     /// The octets of a response are fetched as they are sent; if the peer may not read them, nothing is appended and the
     /// stream has ended. An `Err` means out of memory, and changes nothing. It comes only if something is to be appended, and
     /// `out` has no room for it, or a Read is begun while none is outstanding, so that memory is taken for 16 of them.
+    #[inline(always)]
     pub fn emit(&mut self, memory: &Memory<A>, out: &mut Vec<u8, A>) -> Result<Emission, AllocError>
         requires { self.old.sent ≤ 2 ^ 62 }
         ensures emission { IfOk result (λ emission. emission ≡ emission_of memory.now self.old) }
@@ -342,6 +343,7 @@ impl<A: Allocator> Stream<A> {
     }
 
     // Appends the frame of the part of what was posted that is due, if one is.
+    #[inline(always)]
     fn emit_part(&mut self, out: &mut Vec<u8, A>) -> Result<Emission, AllocError>
         requires place { self.old.sent ≤ 2 ^ 62 }
         requires open { is_open self.old.start ≡ true }
