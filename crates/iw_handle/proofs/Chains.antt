@@ -87,3 +87,19 @@ why_err {A} o p r same refused memory = subst (λ q. IfErr r (λ e. (e ≡ NoMem
     go q (Ok x) is none = tt
     go None (Err e) is none = inl none
     go (Some x) (Err e) is none = inr (sym (ap result_err is))
+
+-- both where something is handed back with the refusal
+pub refused_is_err_with : {A B : Type 0} (o p : Option Refusal) (b : B) (r : Result A (Refusal × B)) → o ≡ p → IfSome o (λ x. r ≡ Err (x, b)) → IfSome p (λ _. IsErr r)
+refused_is_err_with o p b r same refused = subst (λ q. IfSome q (λ _. IsErr r)) same (go o refused)
+  where
+    go : (q : Option Refusal) → IfSome q (λ x. r ≡ Err (x, b)) → IfSome q (λ _. IsErr r)
+    go None is = tt
+    go (Some x) is = subst (λ z. IsErr z) (sym is) refl
+
+pub why_err_with : {A B : Type 0} (o p : Option Refusal) (b : B) (r : Result A (Refusal × B)) → o ≡ p → IfSome o (λ x. r ≡ Err (x, b)) → IfNone o (IfErr r (λ e. e.0 ≡ NoMemory)) → IfErr r (λ e. (e.0 ≡ NoMemory) ⊎ (p ≡ Some e.0))
+why_err_with {A} {B} o p b r same refused memory = subst (λ q. IfErr r (λ e. (e.0 ≡ NoMemory) ⊎ (q ≡ Some e.0))) same (go o r refused memory)
+  where
+    go : (q : Option Refusal) (a : Result A (Refusal × B)) → IfSome q (λ x. a ≡ Err (x, b)) → IfNone q (IfErr a (λ e. e.0 ≡ NoMemory)) → IfErr a (λ e. (e.0 ≡ NoMemory) ⊎ (q ≡ Some e.0))
+    go q (Ok x) is none = tt
+    go None (Err e) is none = inl none
+    go (Some x) (Err e) is none = inr (sym (ap (λ a. option_map (λ e. e.0) (result_err a)) is))

@@ -21,53 +21,56 @@ use iw_endpoint::{Message, Request, Stag};
 use iw_lines::{Lines, Payload};
 use std::alloc::{AllocError, Global};
 
-// Posts a request, which the program knows by this token, and keeps its octets.
+// Posts a request, which the program knows by this token, and keeps its octets. An `Err` gives them back.
 fn post_payload(
     held: &mut Held,
     number: u32,
     request: Request<Bytes>,
     token: u64,
     payload: Payload,
-) -> Result<(), Refusal>
+) -> Result<(), (Refusal, Bytes)>
     // The first refusal that applies; if none does, only `NoMemory`.
-    ensures refused { IfSome (refusal_to_post held.old.endpoint number request) (λ r. result ≡ Err r) }
+    ensures refused { IfSome (refusal_to_post held.old.endpoint number request) (λ r. result ≡ Err (r, payload)) }
     ensures memory { IfNone (refusal_to_post held.old.endpoint number request)
-        (IfErr result (λ e. e ≡ Refusal.NoMemory)) }
+        (IfErr result (λ e. e.0 ≡ Refusal.NoMemory)) }
     ensures ok { OnOk result (held.new ≡ held_posted_from held.old number request token payload) }
     ensures err { OnErr result (held.new ≡ held.old) }
+    ensures back { IfErr result (λ e. e.1 ≡ payload) }
 {
     match held.endpoint.post(number, request) {
         Ok(()) => {
             held.lines.push_payload(number, token, payload);
             Ok(())
         }
-        Err(refused) => Err(reason_of(refused)),
+        Err(refused) => Err((reason_of(refused), payload.into_octets())),
     }
 }
 
-// Posts a Send that shares the octets.
+// Posts a Send that shares the octets. An `Err` gives them back.
 fn send_shared(
     held: &mut Held,
     alloc: Global,
     number: u32,
-    octets: &Bytes,
+    octets: Bytes,
     solicited: bool,
     invalidate: Option<Stag>,
     token: u64,
-) -> Result<(), Refusal>
-    ensures refused { IfSome (refusal_to_post held.old.endpoint number (send_of octets.now solicited invalidate))
+) -> Result<(), (Refusal, Bytes)>
+    ensures refused { IfSome (refusal_to_post held.old.endpoint number (send_of octets solicited invalidate))
         (λ _. IsErr result) }
-    ensures why { IfErr result (λ e. (e ≡ Refusal.NoMemory) ⊎
-        (refusal_to_post held.old.endpoint number (send_of octets.now solicited invalidate) ≡ Some e)) }
+    ensures why { IfErr result (λ e. (e.0 ≡ Refusal.NoMemory) ⊎
+        (refusal_to_post held.old.endpoint number (send_of octets solicited invalidate) ≡ Some e.0)) }
     ensures ok { OnOk result
-        (held.new ≡ held_posted_from held.old number (send_of octets.now solicited invalidate) token octets.now) }
+        (held.new ≡ held_posted_from held.old number (send_of octets solicited invalidate) token octets) }
     ensures err { OnErr result (held.new ≡ held.old) }
+    ensures back { IfErr result (λ e. e.1 ≡ octets) }
 {
     let Ok(shared) = octets.clone() else {
-        return Err(Refusal::NoMemory);
+        return Err((Refusal::NoMemory, octets));
     };
-    let Ok(payload) = Payload::of(alloc, octets) else {
-        return Err(Refusal::NoMemory);
+    let payload = match Payload::of(alloc, octets) {
+        Ok(payload) => payload,
+        Err(octets) => return Err((Refusal::NoMemory, octets)),
     };
     let message = Message::Send {
         octets: shared,
@@ -77,28 +80,30 @@ fn send_shared(
     post_payload(held, number, Request::Message(message), token, payload)
 }
 
-// Posts a Write that shares the octets.
+// Posts a Write that shares the octets. An `Err` gives them back.
 fn write_shared(
     held: &mut Held,
     alloc: Global,
     number: u32,
     stag: Stag,
     to: u64,
-    octets: &Bytes,
+    octets: Bytes,
     token: u64,
-) -> Result<(), Refusal>
-    ensures refused { IfSome (refusal_to_post held.old.endpoint number (write_of stag to octets.now)) (λ _. IsErr result) }
+) -> Result<(), (Refusal, Bytes)>
+    ensures refused { IfSome (refusal_to_post held.old.endpoint number (write_of stag to octets)) (λ _. IsErr result) }
     ensures why { IfErr result
-        (λ e. (e ≡ Refusal.NoMemory) ⊎ (refusal_to_post held.old.endpoint number (write_of stag to octets.now) ≡ Some e)) }
+        (λ e. (e.0 ≡ Refusal.NoMemory) ⊎ (refusal_to_post held.old.endpoint number (write_of stag to octets) ≡ Some e.0)) }
     ensures ok { OnOk result
-        (held.new ≡ held_posted_from held.old number (write_of stag to octets.now) token octets.now) }
+        (held.new ≡ held_posted_from held.old number (write_of stag to octets) token octets) }
     ensures err { OnErr result (held.new ≡ held.old) }
+    ensures back { IfErr result (λ e. e.1 ≡ octets) }
 {
     let Ok(shared) = octets.clone() else {
-        return Err(Refusal::NoMemory);
+        return Err((Refusal::NoMemory, octets));
     };
-    let Ok(payload) = Payload::of(alloc, octets) else {
-        return Err(Refusal::NoMemory);
+    let payload = match Payload::of(alloc, octets) {
+        Ok(payload) => payload,
+        Err(octets) => return Err((Refusal::NoMemory, octets)),
     };
     let message = Message::Write {
         stag,
@@ -158,9 +163,16 @@ pub(crate) fn send_these(
     };
     let solicited = has_bit(flags, numbers::SOLICITED);
     let invalidate = invalidated_by(flags, stag);
-    match send_shared(held, alloc, number, &shared, solicited, invalidate, token) {
+    match send_shared(held, alloc, number, shared, solicited, invalidate, token) {
         Ok(()) => Ok(()),
-        Err(refusal) => Err(give_back(&mut held.lines, alloc, number, shared, octets, refusal)),
+        Err((refusal, shared)) => Err(give_back(
+            &mut held.lines,
+            alloc,
+            number,
+            shared,
+            octets,
+            refusal,
+        )),
     }
 }
 
@@ -187,9 +199,16 @@ pub(crate) fn write_these(
     let Ok(shared) = octets.share(alloc) else {
         return Err(Refusal::NoMemory);
     };
-    match write_shared(held, alloc, number, stag, to, &shared, token) {
+    match write_shared(held, alloc, number, stag, to, shared, token) {
         Ok(()) => Ok(()),
-        Err(refusal) => Err(give_back(&mut held.lines, alloc, number, shared, octets, refusal)),
+        Err((refusal, shared)) => Err(give_back(
+            &mut held.lines,
+            alloc,
+            number,
+            shared,
+            octets,
+            refusal,
+        )),
     }
 }
 

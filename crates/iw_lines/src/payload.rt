@@ -1,7 +1,7 @@
-ghost use Rattle.std.specs.Prelude.{◌≡◌, ◌++◌, ◌∷◌, [], IfOk};
+ghost use Rattle.std.specs.Prelude.{◌≡◌, ◌++◌, ◌∷◌, [], IfOk, IfErr};
 
 use bytes::Bytes;
-use std::alloc::{AllocError, Global};
+use std::alloc::{AllocFailed, Global};
 use std::collections::LinkedList;
 use std::marker::Model;
 
@@ -23,13 +23,26 @@ impl Model for Payload {
 }
 
 impl Payload {
-    /// Shares the octets. An `Err` means out of memory.
-    pub fn of(alloc: Global, octets: &Bytes) -> Result<Payload, AllocError>
-        ensures { IfOk result (λ payload. payload ≡ octets.now) }
+    /// Takes the octets in. An `Err`, which gives them back, means out of memory.
+    pub fn of(alloc: Global, octets: Bytes) -> Result<Payload, Bytes>
+        ensures ok { IfOk result (λ payload. payload ≡ octets) }
+        ensures back { IfErr result (λ back. back ≡ octets) }
     {
         let mut list = LinkedList::new(alloc);
-        list.push_back(octets.clone()?)?;
-        Ok(Payload { list })
+        match list.push_back(octets) {
+            Ok(()) => Ok(Payload { list }),
+            Err(AllocFailed { value }) => Err(value),
+        }
+    }
+
+    /// Gives the octets back.
+    pub fn into_octets(self) -> Bytes
+        ensures { result ≡ self }
+    {
+        match self.into_list().pop_front() {
+            Some(octets) => octets,
+            None => unreachable!(),
+        }
     }
 
     // The list of this one.

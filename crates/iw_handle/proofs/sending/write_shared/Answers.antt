@@ -1,14 +1,14 @@
 use Rattle.std.proofs.Common.{◌≡◌}
 use Rattle.iw_handle.specs.Streams.{refusal_to_post, write_of}
-use Rattle.iw_handle.proofs.Chains.{refused_is_err, why_err}
+use Rattle.iw_handle.proofs.Chains.{refused_is_err_with, why_err_with}
 use Rattle.iw_handle.proofs.sending.write_shared.Goals as goal
 
 pub returns-clause-refused : goal.returns-clause-refused
 returns-clause-refused c =
-    let copied : c.in-Ok.shared ≡ c.args.octets.now = c.in-Ok.ensures.cases in
-    refused_is_err _ _ c.post_payload.result (λ i. refusal_to_post c.args.held.now.endpoint c.args.number (write_of c.args.stag c.args.to (copied i))) c.post_payload.ensures.refused
+    let copied : c.in-Ok.shared ≡ c.args.octets = c.in-Ok.ensures.cases in
+    refused_is_err_with _ _ _ c.post_payload.result (λ i. refusal_to_post c.args.held.now.endpoint c.args.number (write_of c.args.stag c.args.to (copied i))) c.post_payload.ensures.refused
 
 pub returns-clause-why : goal.returns-clause-why
 returns-clause-why c =
-    let copied : c.in-Ok.shared ≡ c.args.octets.now = c.in-Ok.ensures.cases in
-    why_err _ _ c.post_payload.result (λ i. refusal_to_post c.args.held.now.endpoint c.args.number (write_of c.args.stag c.args.to (copied i))) c.post_payload.ensures.refused c.post_payload.ensures.memory
+    let copied : c.in-Ok.shared ≡ c.args.octets = c.in-Ok.ensures.cases in
+    why_err_with _ _ _ c.post_payload.result (λ i. refusal_to_post c.args.held.now.endpoint c.args.number (write_of c.args.stag c.args.to (copied i))) c.post_payload.ensures.refused c.post_payload.ensures.memory
