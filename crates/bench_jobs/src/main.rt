@@ -5,18 +5,11 @@
 //! small.
 #![tactic(auto)]
 
-mod awkward;
-mod connections;
-mod digest;
-mod end;
-mod lossy;
-mod random;
 mod replay;
-mod schedule;
-mod storage;
 
-use crate::connections::{Load, MANY};
 use anyhow::{Context, Result, bail};
+use bench_traffic::connections::{Load, MANY};
+use bench_traffic::{awkward, connections, lossy, storage};
 use std::alloc::Global;
 use std::rt::Runtime;
 

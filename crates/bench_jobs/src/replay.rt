@@ -1,9 +1,7 @@
 //! Schedules that are replayed, as `iwarp replay` does it: the text is read, run at two ends, and printed.
 
-use crate::digest::Digest;
-use crate::random::Random;
-use crate::schedule::{Digits, Schedule};
 use anyhow::{Result, bail};
+use bench_input::{Digest, Digits, Random, Schedule};
 use iw_program::replay_text;
 use std::alloc::Global;
 

@@ -1,10 +1,9 @@
 //! Connections that come and go, while thousands of others are idle: start-up frames with private data, a few commands,
 //! a Write, and a close.
 
-use crate::digest::Digest;
 use crate::end::{End, TO_WRITE, config, made, send};
-use crate::random::{Pool, Random};
 use anyhow::{Result, bail};
+use bench_input::{Digest, Pool, Random};
 use bytes::Bytes;
 use iw_connection::{Octets, Step, close};
 use iw_endpoint::{Message, Role, Stag};
@@ -21,13 +20,13 @@ const MOST: u32 = 100_000;
 
 /// How many connections beside the idle ones are open at a time, and how many commands each has.
 #[derive(Clone, Copy)]
-pub(crate) struct Load {
-    pub(crate) alive: usize,
-    pub(crate) commands: u32,
+pub struct Load {
+    pub alive: usize,
+    pub commands: u32,
 }
 
 /// Many are open at a time.
-pub(crate) const MANY: Load = Load {
+pub const MANY: Load = Load {
     alive: 256,
     commands: 4,
 };
@@ -270,7 +269,7 @@ impl Server {
 }
 
 /// Serves so many hundreds of connections. Returns the digest of what came.
-pub(crate) fn run(alloc: Global, seed: u32, hundreds: u32, load: Load) -> Result<u64> {
+pub fn run(alloc: Global, seed: u32, hundreds: u32, load: Load) -> Result<u64> {
     let mut server = Server::new(alloc, seed, load)?;
     server.run(hundreds.saturating_mul(100))?;
     Ok(server.digest.finish())

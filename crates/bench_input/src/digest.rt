@@ -2,7 +2,7 @@
 
 /// What was added so far.
 #[derive(Drop)]
-pub(crate) struct Digest {
+pub struct Digest {
     state: u64,
 }
 
@@ -28,17 +28,17 @@ fn joined(octets: &[u8]) -> u64 {
 
 impl Digest {
     /// Nothing was added.
-    pub(crate) fn new() -> Digest {
+    pub fn new() -> Digest {
         Digest { state: 0 }
     }
 
     /// Adds a number.
-    pub(crate) fn add(&mut self, number: u64) {
+    pub fn add(&mut self, number: u64) {
         self.state = (self.state.rotate_left(9) ^ number).wrapping_mul(0x9e37_79b9_7f4a_7c15);
     }
 
     /// Adds octets, 64 at a time, and how many there are.
-    pub(crate) fn add_octets(&mut self, octets: &[u8]) {
+    pub fn add_octets(&mut self, octets: &[u8]) {
         let (blocks, rest) = octets.as_chunks::<64>();
         for block in blocks {
             self.add(joined(block));
@@ -48,7 +48,7 @@ impl Digest {
     }
 
     /// The digest of all that was added.
-    pub(crate) fn finish(&self) -> u64 {
+    pub fn finish(&self) -> u64 {
         self.state
     }
 }

@@ -1,10 +1,9 @@
 //! Awkward traffic: deliveries of 1 to 200 octets, ULPDUs of 128, Sends of 0 to 64 octets, many regions that come and go,
 //! windows whose first frame comes last, and markers that lie.
 
-use crate::digest::Digest;
 use crate::end::{End, TO_WRITE, config, made, send};
-use crate::random::{Pool, Random};
 use anyhow::{Result, bail};
+use bench_input::{Digest, Pool, Random};
 use iw_connection::{Octets, Step, close};
 use iw_endpoint::{Message, Role, Stag};
 use std::alloc::Global;
@@ -311,7 +310,7 @@ impl Awkward {
 }
 
 /// Does rounds of all of this. Returns the digest of what came.
-pub(crate) fn run(alloc: Global, seed: u32, rounds: u32) -> Result<u64> {
+pub fn run(alloc: Global, seed: u32, rounds: u32) -> Result<u64> {
     let mut awkward = Awkward::new(alloc, seed)?;
     awkward.fill()?;
     let plain = awkward.open(false, false)?;

@@ -11,20 +11,20 @@ const POOL: usize = 1 << 20;
 
 /// A sequence of numbers (SplitMix64, by G. Steele, D. Lea and C. Flood).
 #[derive(Drop)]
-pub(crate) struct Random {
+pub struct Random {
     state: u64,
 }
 
 impl Random {
     /// The sequence of a seed.
-    pub(crate) fn new(seed: u32) -> Random {
+    pub fn new(seed: u32) -> Random {
         Random {
             state: u64::from(seed),
         }
     }
 
     /// The next number.
-    pub(crate) fn next(&mut self) -> u64 {
+    pub fn next(&mut self) -> u64 {
         self.state = self.state.wrapping_add(0x9e37_79b9_7f4a_7c15);
         let mut z = self.state;
         z = (z ^ (z >> 30)).wrapping_mul(0xbf58_476d_1ce4_e5b9);
@@ -33,7 +33,7 @@ impl Random {
     }
 
     /// The next number below `end`, or 0 if that is 0.
-    pub(crate) fn below(&mut self, end: usize) -> usize
+    pub fn below(&mut self, end: usize) -> usize
         ensures { 0 < end → result < end }
     {
         let number = (self.next() >> 8) as usize;
@@ -44,12 +44,12 @@ impl Random {
     }
 
     /// True one time in `times`.
-    pub(crate) fn once_in(&mut self, times: usize) -> bool {
+    pub fn once_in(&mut self, times: usize) -> bool {
         self.below(times) == 0
     }
 
     /// A number from `least` to `most`.
-    pub(crate) fn between(&mut self, least: usize, most: usize) -> usize {
+    pub fn between(&mut self, least: usize, most: usize) -> usize {
         let span = most.saturating_sub(least).saturating_add(1);
         least.saturating_add(self.below(span))
     }
@@ -57,12 +57,12 @@ impl Random {
 
 /// Random octets, of which each message is a part.
 #[derive(Drop)]
-pub(crate) struct Pool {
+pub struct Pool {
     octets: Bytes,
 }
 
 impl Pool {
-    pub(crate) fn new(alloc: Global, random: &mut Random) -> Result<Pool> {
+    pub fn new(alloc: Global, random: &mut Random) -> Result<Pool> {
         let mut octets = Vec::with_capacity(alloc, POOL)?;
         for _ in 0..POOL / 8 {
             octets.extend_from_slice(&random.next().to_le_bytes())?;
@@ -73,12 +73,12 @@ impl Pool {
     }
 
     /// Some place at which `len` octets begin.
-    pub(crate) fn place(&self, random: &mut Random, len: usize) -> usize {
+    pub fn place(&self, random: &mut Random, len: usize) -> usize {
         random.below(self.octets.len().saturating_sub(len).saturating_add(1))
     }
 
     /// The octets from a place on.
-    pub(crate) fn part(&self, at: usize, len: usize) -> Result<Bytes> {
+    pub fn part(&self, at: usize, len: usize) -> Result<Bytes> {
         let all = self.octets.len();
         if len > all || at > all - len {
             bail!("no such part");
@@ -87,7 +87,7 @@ impl Pool {
     }
 
     /// The same, to look at.
-    pub(crate) fn look(&self, at: usize, len: usize) -> Result<&[u8]> {
+    pub fn look(&self, at: usize, len: usize) -> Result<&[u8]> {
         let all = self.octets.as_slice();
         if len > all.len() || at > all.len() - len {
             bail!("no such part");

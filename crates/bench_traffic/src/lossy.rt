@@ -1,9 +1,8 @@
 //! Writes with markers and CRCs over a network that loses and reorders: a segment of every 20 to 100 comes late.
 
-use crate::digest::Digest;
 use crate::end::{End, TO_WRITE, config, send};
-use crate::random::{Pool, Random};
 use anyhow::{Result, bail};
+use bench_input::{Digest, Pool, Random};
 use bytes::Bytes;
 use iw_connection::{Octets, Step};
 use iw_endpoint::{Message, Role, Stag};
@@ -270,7 +269,7 @@ impl Lossy {
 }
 
 /// Carries rounds of Writes, one at each stream. Returns their digest.
-pub(crate) fn run(alloc: Global, seed: u32, rounds: u32) -> Result<u64> {
+pub fn run(alloc: Global, seed: u32, rounds: u32) -> Result<u64> {
     let mut lossy = Lossy::new(alloc, seed)?;
     lossy.open()?;
     for _ in 0..rounds {

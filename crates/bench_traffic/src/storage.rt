@@ -1,10 +1,9 @@
 //! A storage target and its host, as NVMe over RDMA uses them: a command of 64 octets comes as a Send, the data goes by
 //! Write or is fetched by Read, and an answer of 16 octets is a Send that invalidates the region of the command.
 
-use crate::digest::Digest;
 use crate::end::{End, SINK, config, made, send};
-use crate::random::{Pool, Random};
 use anyhow::{Result, bail};
+use bench_input::{Digest, Pool, Random};
 use bytes::Bytes;
 use iw_connection::{Octets, Step};
 use iw_endpoint::{Message, ReadRequest, Request, Rights, Role, Stag};
@@ -488,7 +487,7 @@ impl Storage {
 }
 
 /// Carries rounds of commands. Returns their digest.
-pub(crate) fn run(alloc: Global, seed: u32, rounds: u32, crc: bool) -> Result<u64> {
+pub fn run(alloc: Global, seed: u32, rounds: u32, crc: bool) -> Result<u64> {
     let mut storage = Storage::new(alloc, seed)?;
     storage.run(rounds, crc)?;
     storage.digest.add(storage.done);

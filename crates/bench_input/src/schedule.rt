@@ -1,7 +1,7 @@
 //! Schedules that a seed determines, as an auditor or a tester writes them: streams of two domains are started, carry
 //! Writes, Sends and Reads in any sizes, and some of them end by a fault or a break.
 
-use crate::random::Random;
+use crate::Random;
 use anyhow::Result;
 use std::alloc::Global;
 
@@ -25,12 +25,12 @@ const DIGITS: &[u8; 16] = b"0123456789abcdef";
 
 /// Hexadecimal digits, of which each payload is a part.
 #[derive(Drop)]
-pub(crate) struct Digits {
+pub struct Digits {
     text: String,
 }
 
 impl Digits {
-    pub(crate) fn new(alloc: Global, random: &mut Random) -> Result<Digits> {
+    pub fn new(alloc: Global, random: &mut Random) -> Result<Digits> {
         let mut text = String::new(alloc);
         for _ in 0..16_384 {
             let number = random.next();
@@ -122,7 +122,7 @@ struct Line {
 
 /// The text of a schedule, as far as it is written.
 #[derive(Drop)]
-pub(crate) struct Schedule<'a> {
+pub struct Schedule<'a> {
     alloc: Global,
     random: &'a mut Random,
     digits: &'a Digits,
@@ -146,7 +146,7 @@ fn domain_of(stream: usize) -> usize {
 }
 
 impl<'a> Schedule<'a> {
-    pub(crate) fn new(alloc: Global, random: &'a mut Random, digits: &'a Digits) -> Schedule<'a> {
+    pub fn new(alloc: Global, random: &'a mut Random, digits: &'a Digits) -> Schedule<'a> {
         Schedule {
             alloc,
             random,
@@ -377,7 +377,7 @@ impl<'a> Schedule<'a> {
     }
 
     /// Writes a schedule of so many messages, and returns its text.
-    pub(crate) fn written(mut self, messages: u32) -> Result<Vec<u8>> {
+    pub fn written(mut self, messages: u32) -> Result<Vec<u8>> {
         self.prepare()?;
         self.open()?;
         self.say("\n# Messages.\n")?;
