@@ -5,13 +5,13 @@
 #include <stdio.h>
 #include <stdlib.h>
 
-/* Ends the program, with its line, if an answer is not as it should be. */
-#define CHECK(answer)                                   \
-    do {                                                \
-        if (!(answer)) {                                \
-            printf("line %d: %s\n", __LINE__, #answer); \
-            exit(1);                                    \
-        }                                               \
+/* Ends the program, with its file and line, if an answer is not as it should be. */
+#define CHECK(answer)                                                 \
+    do {                                                              \
+        if (!(answer)) {                                              \
+            printf("%s, line %d: %s\n", __FILE__, __LINE__, #answer); \
+            exit(1);                                                  \
+        }                                                             \
     } while (0)
 
 #endif
