@@ -1,6 +1,6 @@
 //! Tests of the layers from segments up to runs, over their public interfaces: segments and messages computed by hand, streams
-//! that place frames before their turn without a copy, schedules, events at both ends, and the text of a schedule, also over
-//! input and output that fail.
+//! that place frames before their turn without a copy, texts of schedules, servers' runs, and the replay of a text, also over input
+//! and output that fail.
 #![tactic(auto)]
 
 #[cfg(test)]
@@ -17,7 +17,3 @@ mod rdmap;
 mod schedules;
 #[cfg(test)]
 mod servings;
-#[cfg(test)]
-mod streams;
-#[cfg(test)]
-mod worlds;
