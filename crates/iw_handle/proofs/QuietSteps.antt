@@ -1,7 +1,6 @@
 -- What quiet steps one after another come to, and the step past them.
-use Rattle.std.proofs.Common.{◌≡◌, ℕ, ◌+◌, ◌<◌, ◌≤◌, true, false, List, refl, sym, ◌∙◌, ap, subst, add-one, arith}
-use Rattle.std.proofs.Common.{Option, None, Some, Result, Ok, Err, IfSome, IfNone, IfErr, OnOk, OnErr}
-use Rattle.std.specs.Result.{result_err}
+use Rattle.std.proofs.Common.{◌≡◌, ℕ, ◌+◌, ◌<◌, ◌≤◌, true, false, List, refl, sym, ◌∙◌, ap, subst, add-one}
+use Rattle.std.proofs.Common.{Option, None, Some, Result, Ok, Err, IfSome, IfNone}
 use Rattle.std.proofs.lemmas.Bool.{false≢true}
 use borrow.Author.Count.{below_more}
 use Rattle.iw_stream.specs.declared.answer.Step.{Step}
@@ -129,33 +128,3 @@ works_on most held number before now refusal event after few came quiet works en
   last = subst (λ h. Works h number refusal event after) came works;
   ends = subst (λ h. before < most → refusal ≡ None → is_quiet_at h number ≡ false) came ends;
 }
-
--- where none may come before it, it is one step
-pub one_step : (held : Held) (number : ℕ) (refusal : Option Refusal) (event : Event) (after : Held) →
-    WorksOn 0 held number refusal event after → Works held number refusal event after
-unfolding after_steps
-one_step held number refusal event after w =
-    let none : w.before ≡ 0 = omega (arith, w.few) in
-    subst (λ n. Works (after_steps n held number) number refusal event after) none w.last
-
--- what is said of a refusal, said of an answer
-module _ {A : Type 0} where
-  pub refused_as : (o : Option Refusal) (answer : Result A Refusal) →
-      IfSome o (λ r. result_err answer ≡ Some r) → IfSome o (λ r. answer ≡ Err r)
-  refused_as None answer is = tt
-  refused_as (Some r) (Ok done) is = cc
-  refused_as (Some r) (Err e) is = cc
-
-  pub memory_as : (o : Option Refusal) (answer : Result A Refusal) →
-      IfNone o (IfSome (result_err answer) (λ r. r ≡ NoMemory)) → IfNone o (IfErr answer (λ r. r ≡ NoMemory))
-  memory_as None (Ok done) is = tt
-  memory_as None (Err e) is = is
-  memory_as (Some r) answer is = tt
-
-  pub on_ok : {P : Type 0} (answer : Result A Refusal) → (result_err answer ≡ None → P) → OnOk answer P
-  on_ok (Ok done) holds = holds refl
-  on_ok (Err e) holds = tt
-
-  pub on_err : (P : Type 0) (answer : Result A Refusal) → IfSome (result_err answer) (λ _. P) → OnErr answer P
-  on_err P (Ok done) holds = tt
-  on_err P (Err e) holds = holds

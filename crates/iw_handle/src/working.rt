@@ -171,30 +171,8 @@ fn step(endpoint: &mut Endpoint, number: u32, reach: &mut u64) -> Result<Step<Oc
     }
 }
 
-// Does steps one after another: at most `most` quiet ones, then the one that it reports.
-fn steps(held: &mut Held, number: u32, most: u32, event: &mut Event) -> Result<(), Refusal>
-    ensures steps { WorksOn most held.old number (result_err result) event.new held.new }
-    ensures kept { OnErr result (event.new ≡ event.old) }
-{
-    let mut reach = point(&held.endpoint, number)?;
-    let mut before = 0;
-    'steps: loop {
-        match step(&mut held.endpoint, number, &mut reach) {
-            Ok(step) if before < most && is_quiet(&step) => {
-                pass(&step, number, &mut held.lines);
-                before += 1;
-            }
-            Ok(step) => {
-                tell(step, number, &mut held.lines, event);
-                return Ok(());
-            }
-            Err(refusal) => return Err(refusal),
-        }
-    }
-}
-
-// Does one step.
-#[inline(always)]
+// Does one step, and reports it.
+#[inline(never)]
 fn work(held: &mut Held, number: u32, event: &mut Event) -> Result<(), Refusal>
     // The first refusal that applies; if none does, only `NoMemory`.
     ensures refused { IfSome (refusal_to_work held.old.endpoint number) (λ r. result ≡ Err r) }
@@ -205,7 +183,30 @@ fn work(held: &mut Held, number: u32, event: &mut Event) -> Result<(), Refusal>
     ensures ok { OnOk result (held.new ≡ held_worked held.old number) }
     ensures err { OnErr result (held.new ≡ held.old) }
 {
-    steps(held, number, 0, event)
+    let mut reach = point(&held.endpoint, number)?;
+    let step = step(&mut held.endpoint, number, &mut reach)?;
+    tell(step, number, &mut held.lines, event);
+    Ok(())
+}
+
+// Does steps one after another: at most `most` quiet ones, then the one that it reports. That may be quiet only behind so many, so
+// what a quiet step tells is let go until then.
+fn steps(held: &mut Held, number: u32, most: u32, event: &mut Event) -> Result<(), Refusal>
+    ensures steps { WorksOn most held.old number (result_err result) event.new held.new }
+    ensures kept { OnErr result (event.new ≡ event.old) }
+{
+    let mut reach = point(&held.endpoint, number)?;
+    'steps: for n in 0..most {
+        match step(&mut held.endpoint, number, &mut reach) {
+            Ok(step) if is_quiet(&step) => pass(&step, number, &mut held.lines),
+            Ok(step) => {
+                tell(step, number, &mut held.lines, event);
+                return Ok(());
+            }
+            Err(refusal) => return Err(refusal),
+        }
+    }
+    work(held, number, event)
 }
 
 // Copies out what a stream handed back, and frees it.
