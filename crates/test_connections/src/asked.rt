@@ -56,23 +56,11 @@ fn nothing_is_lost_by_reads_that_ask_for_less(rt: HostRuntime) -> Result<(), Fai
 fn a_read_that_would_block_is_made_again(rt: HostRuntime) -> Result<(), Fail> {
     let mut end = End::open(rt.alloc(), Role::Preset)?;
     let mut socket = Halting::new([9u8; 20].as_slice(), 20).failing_at(2, ErrorKind::WouldBlock);
-    assert_eq!(rt;
-        take_some(&mut end.endpoint, STREAM, &mut socket, 7)?,
-        Intake::Came(7)
-    );
+    assert!(rt; take_some(&mut end.endpoint, STREAM, &mut socket, 7)? == Intake::Came(7));
     assert!(rt; is_blocked(take_some(&mut end.endpoint, STREAM, &mut socket, 7)));
-    assert_eq!(rt;
-        take_some(&mut end.endpoint, STREAM, &mut socket, 7)?,
-        Intake::Came(7)
-    );
-    assert_eq!(rt;
-        take_some(&mut end.endpoint, STREAM, &mut socket, 7)?,
-        Intake::Came(6)
-    );
-    assert_eq!(rt;
-        take_some(&mut end.endpoint, STREAM, &mut socket, 7)?,
-        Intake::End
-    );
+    assert!(rt; take_some(&mut end.endpoint, STREAM, &mut socket, 7)? == Intake::Came(7));
+    assert!(rt; take_some(&mut end.endpoint, STREAM, &mut socket, 7)? == Intake::Came(6));
+    assert!(rt; take_some(&mut end.endpoint, STREAM, &mut socket, 7)? == Intake::End);
     Ok(())
 }
 
@@ -82,21 +70,9 @@ fn a_stream_that_has_ended_drops_what_was_asked_for(rt: HostRuntime) -> Result<(
     end.closed()?;
     let octets = [9u8; 20];
     let mut rest = octets.as_slice();
-    assert_eq!(rt;
-        take_some(&mut end.endpoint, STREAM, &mut rest, 0)?,
-        Intake::Came(1)
-    );
-    assert_eq!(rt;
-        take_some(&mut end.endpoint, STREAM, &mut rest, 12)?,
-        Intake::Came(12)
-    );
-    assert_eq!(rt;
-        take_some(&mut end.endpoint, STREAM, &mut rest, 12)?,
-        Intake::Came(7)
-    );
-    assert_eq!(rt;
-        take_some(&mut end.endpoint, STREAM, &mut rest, 12)?,
-        Intake::End
-    );
+    assert!(rt; take_some(&mut end.endpoint, STREAM, &mut rest, 0)? == Intake::Came(1));
+    assert!(rt; take_some(&mut end.endpoint, STREAM, &mut rest, 12)? == Intake::Came(12));
+    assert!(rt; take_some(&mut end.endpoint, STREAM, &mut rest, 12)? == Intake::Came(7));
+    assert!(rt; take_some(&mut end.endpoint, STREAM, &mut rest, 12)? == Intake::End);
     Ok(())
 }

@@ -85,11 +85,11 @@ fn the_loop_carries_a_stream_by_long_reads(rt: HostRuntime) -> Result<(), Fail> 
     let (target, sink) = pair.exchange(rt.alloc(), octets.as_slice())?;
     assert!(rt; pair.serves.has(target, octets.as_slice()));
     assert!(rt; pair.asks.has(sink, octets.as_slice()));
-    assert_eq!(rt; pair.serves.seen.received, 1);
-    assert_eq!(rt; pair.asks.seen.done, 3);
+    assert!(rt; pair.serves.seen.received == 1);
+    assert!(rt; pair.asks.seen.done == 3);
     pair.asks.closed()?;
     pair.serves.closed()?;
-    assert_eq!(rt; pair.asks.seen.flushed, 1);
-    assert_eq!(rt; pair.serves.seen.flushed, 1);
+    assert!(rt; pair.asks.seen.flushed == 1);
+    assert!(rt; pair.serves.seen.flushed == 1);
     Ok(())
 }

@@ -13,18 +13,18 @@ fn is_refused(quota: &Quota<Global>, len: usize) -> bool {
 #[test]
 fn what_is_left_is_handed_out_and_no_octet_more(rt: HostRuntime) -> Result<(), Fail> {
     let quota = Quota::new(rt.alloc(), 100);
-    assert_eq!(rt; (quota.held(), quota.most()), (0, 100));
+    assert!(rt; (quota.held(), quota.most()) == (0, 100));
     let first = vec![in &quota; 1u8; 60]?;
-    assert_eq!(rt; quota.held(), 60);
+    assert!(rt; quota.held() == 60);
     assert!(rt; is_refused(&quota, 41));
-    assert_eq!(rt; quota.held(), 60);
+    assert!(rt; quota.held() == 60);
     {
         let rest = vec![in &quota; 2u8; 40]?;
-        assert_eq!(rt; quota.held(), 100);
+        assert!(rt; quota.held() == 100);
         assert!(rt; is_refused(&quota, 1));
-        assert_eq!(rt; rest.len(), 40);
+        assert!(rt; rest.len() == 40);
     }
-    assert_eq!(rt; quota.held(), 60);
+    assert!(rt; quota.held() == 60);
     assert!(rt; first.iter().all(|octet| *octet == 1));
     drop(first);
     let end = Usage {
@@ -32,7 +32,7 @@ fn what_is_left_is_handed_out_and_no_octet_more(rt: HostRuntime) -> Result<(), F
         peak: 100,
         most: 100,
     };
-    assert_eq!(rt; quota.usage(), end);
+    assert!(rt; quota.usage() == end);
     Ok(())
 }
 
@@ -40,16 +40,16 @@ fn what_is_left_is_handed_out_and_no_octet_more(rt: HostRuntime) -> Result<(), F
 fn of_a_block_that_grows_or_shrinks_the_difference_counts(rt: HostRuntime) -> Result<(), Fail> {
     let quota = Quota::new(rt.alloc(), 100);
     let mut words = vec![in &quota; 3u64; 5]?;
-    assert_eq!(rt; quota.held(), 40);
+    assert!(rt; quota.held() == 40);
     assert!(rt; words.reserve_exact(8).is_err());
-    assert_eq!(rt; (quota.held(), words.len()), (40, 5));
+    assert!(rt; (quota.held(), words.len()) == (40, 5));
     words.reserve_exact(7)?;
-    assert_eq!(rt; (quota.held(), quota.usage().peak), (96, 96));
+    assert!(rt; (quota.held(), quota.usage().peak) == (96, 96));
     assert!(rt; words.reserve_exact(8).is_err());
     words.truncate(2);
     words.shrink_to_fit();
-    assert_eq!(rt; (quota.held(), quota.usage().peak), (16, 96));
-    assert_eq!(rt; words.as_slice(), [3, 3].as_slice());
+    assert!(rt; (quota.held(), quota.usage().peak) == (16, 96));
+    assert!(rt; words.as_slice() == [3, 3].as_slice());
     Ok(())
 }
 
@@ -58,8 +58,8 @@ fn a_block_that_the_inner_allocator_refuses_does_not_count(rt: HostRuntime) -> R
     let heap = FailsAt::new(rt.alloc(), 0);
     let quota = Quota::new(&heap, 100);
     assert!(rt; Vec::<u8, &Quota<&FailsAt<Global>>>::with_capacity(&quota, 100).is_err());
-    assert_eq!(rt; quota.held(), 0);
+    assert!(rt; quota.held() == 0);
     let octets = vec![in &quota; 0u8; 100]?;
-    assert_eq!(rt; (quota.held(), octets.len()), (100, 100));
+    assert!(rt; (quota.held(), octets.len()) == (100, 100));
     Ok(())
 }

@@ -70,21 +70,18 @@ fn streams_are_opened_as_long_as_they_fit(rt: HostRuntime) -> Result<(), Fail> {
     {
         let mut endpoint = limited(&quota);
         let (opened, last, refusal) = open_all(&mut endpoint);
-        assert_eq!(rt;
-            (opened > 10, refusal),
-            (true, Some(OpenNextRefusal::NoMemory))
-        );
+        assert!(rt; (opened > 10, refusal) == (true, Some(OpenNextRefusal::NoMemory)));
         let full = quota.held();
         assert!(rt; full <= MOST);
         // A refusal takes nothing, and comes again as long as nothing is given back.
         let again = endpoint.open_next(DOMAIN, Role::Preset, config());
-        assert_eq!(rt; (again.is_err(), quota.held()), (true, full));
+        assert!(rt; (again.is_err(), quota.held()) == (true, full));
         assert!(rt; close(&mut endpoint, last));
         assert!(rt; quota.held() < full);
         let again = endpoint.open_next(DOMAIN, Role::Preset, config());
-        assert_eq!(rt; (again.is_ok(), quota.held()), (true, full));
+        assert!(rt; (again.is_ok(), quota.held()) == (true, full));
     }
-    assert_eq!(rt; quota.held(), 0);
+    assert!(rt; quota.held() == 0);
     Ok(())
 }
 
@@ -102,13 +99,13 @@ fn what_a_stream_holds_counts_beside_the_regions(rt: HostRuntime) -> Result<(), 
         // Octets past a gap want the place of the gap too.
         let refused = endpoint.deliver(0, 150_000, &[7]);
         assert!(rt; matches!(refused, Err(CallRefusal::Refused(_))));
-        assert_eq!(rt; (quota.held(), endpoint.in_order_point(0)), (before, Ok(0)));
+        assert!(rt; (quota.held(), endpoint.in_order_point(0)) == (before, Ok(0)));
         assert!(rt; stag.is_some_and(|stag| endpoint.deregister(stag).is_ok()));
         let delivered = endpoint.deliver(0, 150_000, &[7]);
         assert!(rt; matches!(delivered, Ok(Delivery::Kept)));
         assert!(rt; quota.held() > 150_000 && quota.held() <= MOST);
     }
-    assert_eq!(rt; quota.held(), 0);
+    assert!(rt; quota.held() == 0);
     Ok(())
 }
 
@@ -134,20 +131,19 @@ fn a_stream_with_a_reserve_takes_nothing_from_the_others_nor_they_from_it(
         // The others hold all that they may: the stream with a reserve goes on.
         assert!(rt; !is_kept(&mut endpoint, 0));
         assert!(rt; is_kept(&mut endpoint, 1));
-        assert_eq!(rt;
+        assert!(rt;
             (
                 quota.held(),
                 reserve.held() > opened.saturating_add(150_000)
-            ),
-            (MOST, true)
+            ) == (MOST, true)
         );
         // It holds all that it may: the others go on.
         drop(others);
         let rest = vec![in &reserve; 0u8; MOST.saturating_sub(reserve.held()) as usize]?;
         assert!(rt; endpoint.deliver(1, 250_000, &[7]).is_err());
-        assert_eq!(rt; (rest.is_empty(), reserve.held()), (false, MOST));
+        assert!(rt; (rest.is_empty(), reserve.held()) == (false, MOST));
         assert!(rt; is_kept(&mut endpoint, 0));
     }
-    assert_eq!(rt; (quota.held(), reserve.held()), (0, 0));
+    assert!(rt; (quota.held(), reserve.held()) == (0, 0));
     Ok(())
 }

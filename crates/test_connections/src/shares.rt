@@ -238,23 +238,23 @@ fn told(alloc: Global, share: Option<usize>) -> Result<Story, Fail> {
 #[test]
 fn a_stream_that_wants_more_than_its_share_ends_alone(rt: HostRuntime) -> Result<(), Fail> {
     let story = told(rt.alloc(), Some(4))?;
-    assert_eq!(rt; story.hole, NOTHING);
-    assert_eq!(rt; story.bound, 4);
-    assert_eq!(rt;
-        story.ended,
-        Seen {
-            received: 0,
-            flushed: 4,
-            fault: Some(Fault::UNTAGGED_NO_BUFFER)
-        }
+    assert!(rt; story.hole == NOTHING);
+    assert!(rt; story.bound == 4);
+    assert!(rt;
+        story.ended
+            == Seen {
+                received: 0,
+                flushed: 4,
+                fault: Some(Fault::UNTAGGED_NO_BUFFER)
+            }
     );
-    assert_eq!(rt;
-        story.modest,
-        Seen {
-            received: 3,
-            flushed: 0,
-            fault: None
-        }
+    assert!(rt;
+        story.modest
+            == Seen {
+                received: 3,
+                flushed: 0,
+                fault: None
+            }
     );
     Ok(())
 }
@@ -262,22 +262,22 @@ fn a_stream_that_wants_more_than_its_share_ends_alone(rt: HostRuntime) -> Result
 #[test]
 fn without_shares_one_stream_takes_the_pool(rt: HostRuntime) -> Result<(), Fail> {
     let story = told(rt.alloc(), None)?;
-    assert_eq!(rt; story.bound, 8);
-    assert_eq!(rt; story.modest.fault, Some(Fault::UNTAGGED_NO_BUFFER));
+    assert!(rt; story.bound == 8);
+    assert!(rt; story.modest.fault == Some(Fault::UNTAGGED_NO_BUFFER));
     Ok(())
 }
 
 #[test]
 fn a_share_of_one_is_enough_in_order(rt: HostRuntime) -> Result<(), Fail> {
     let story = told(rt.alloc(), Some(1))?;
-    assert_eq!(rt; story.bound, 1);
-    assert_eq!(rt;
-        story.modest,
-        Seen {
-            received: 3,
-            flushed: 0,
-            fault: None
-        }
+    assert!(rt; story.bound == 1);
+    assert!(rt;
+        story.modest
+            == Seen {
+                received: 3,
+                flushed: 0,
+                fault: None
+            }
     );
     Ok(())
 }
@@ -312,7 +312,7 @@ fn a_stream_that_takes_more_than_a_mark_is_told_once(rt: HostRuntime) -> Result<
         "deliver",
         endpoint.deliver(GREEDY, wire.second(), wire.others.as_slice()),
     )?;
-    assert_eq!(rt; marked(&mut endpoint, alloc, 3)?.as_slice(), [4].as_slice());
+    assert!(rt; marked(&mut endpoint, alloc, 3)?.as_slice() == [4].as_slice());
     // It took the whole pool.
     assert!(rt; is_above_mark(&endpoint, GREEDY, 7));
     assert!(rt; !is_above_mark(&endpoint, GREEDY, 8));

@@ -25,25 +25,17 @@ fn registered(
 #[test]
 fn a_region_ends_at_the_last_offset_at_most(rt: HostRuntime) -> Result<(), Fail> {
     let mut memory = Memory::new(rt.alloc());
-    assert_eq!(rt; memory.add_domain(1), Ok(()));
-    assert_eq!(rt;
-        registered(rt.alloc(), &mut memory, u64::MAX - 6)?,
-        Err(RegisterRefusal::BaseWrap)
+    assert!(rt; memory.add_domain(1) == Ok(()));
+    assert!(rt;
+        registered(rt.alloc(), &mut memory, u64::MAX - 6)? == Err(RegisterRefusal::BaseWrap)
     );
-    assert_eq!(rt;
-        registered(rt.alloc(), &mut memory, u64::MAX - 7)?,
-        Ok(0x0100_0000)
-    );
+    assert!(rt; registered(rt.alloc(), &mut memory, u64::MAX - 7)? == Ok(0x0100_0000));
     let stag = Stag::from(0x0100_0000);
-    assert_eq!(rt;
-        memory.place(1, stag, u64::MAX, "ab".as_bytes(), Right::Write),
-        Err(Deny::ToWrap)
+    assert!(rt;
+        memory.place(1, stag, u64::MAX, "ab".as_bytes(), Right::Write) == Err(Deny::ToWrap)
     );
-    assert_eq!(rt;
-        memory.place(1, stag, u64::MAX, "a".as_bytes(), Right::Write),
-        Ok(())
-    );
-    assert_eq!(rt; memory.store(stag, u64::MAX - 1, "ba".as_bytes()), Ok(()));
+    assert!(rt; memory.place(1, stag, u64::MAX, "a".as_bytes(), Right::Write) == Ok(()));
+    assert!(rt; memory.store(stag, u64::MAX - 1, "ba".as_bytes()) == Ok(()));
     assert!(rt;
         matches!(memory.deregister(stag), Ok(octets) if octets.as_slice() == "\0\0\0\0\0\0ba".as_bytes())
     );
@@ -52,10 +44,7 @@ fn a_region_ends_at_the_last_offset_at_most(rt: HostRuntime) -> Result<(), Fail>
 
 #[test]
 fn rights_print_as_letters(rt: HostRuntime) -> Result<(), Fail> {
-    assert_eq!(rt; format!(in rt.alloc(); "{WRITE}")?.as_str(), "wi");
-    assert_eq!(rt;
-        format!(in rt.alloc(); "{}", Rights::default())?.as_str(),
-        "-"
-    );
+    assert!(rt; format!(in rt.alloc(); "{WRITE}")?.as_str() == "wi");
+    assert!(rt; format!(in rt.alloc(); "{}", Rights::default())?.as_str() == "-");
     Ok(())
 }

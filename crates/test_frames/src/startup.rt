@@ -93,8 +93,8 @@ fn end_for(key: &str) -> Startup {
 fn an_accepted_request(rt: HostRuntime) -> Result<(), Fail> {
     let mut asking = asking();
     let mut answering = answering();
-    assert_eq!(rt; asking.frame().as_slice(), REQUEST.as_slice());
-    assert_eq!(rt; answering.push(REQUEST), (20, Progress::Asked));
+    assert!(rt; asking.frame().as_slice() == REQUEST.as_slice());
+    assert!(rt; answering.push(REQUEST) == (20, Progress::Asked));
     let agreed = Agreed {
         send_markers: true,
         expect_markers: false,
@@ -103,12 +103,12 @@ fn an_accepted_request(rt: HostRuntime) -> Result<(), Fail> {
         rtr: None,
     };
     let private = PrivateData::try_from("hi".as_bytes())?;
-    assert_eq!(rt; answering.accept(private), Ok(agreed));
-    assert_eq!(rt; answering.frame().as_slice(), REPLY.as_slice());
+    assert!(rt; answering.accept(private) == Ok(agreed));
+    assert!(rt; answering.frame().as_slice() == REPLY.as_slice());
     let (front, back) = REPLY.split_at(19);
-    assert_eq!(rt; asking.push(front), (19, Progress::More));
-    assert_eq!(rt; asking.push(back), (3, Progress::Agreed));
-    assert_eq!(rt; asking.private(), "hi".as_bytes());
+    assert!(rt; asking.push(front) == (19, Progress::More));
+    assert!(rt; asking.push(back) == (3, Progress::Agreed));
+    assert!(rt; asking.private() == "hi".as_bytes());
     Ok(())
 }
 
@@ -121,11 +121,11 @@ fn faults_in_their_order(rt: HostRuntime) {
     ];
     for (frame, fault) in rows {
         let told = Progress::Faulted(fault);
-        assert_eq!(rt; answering().push(frame.as_bytes()), (20, told), "{frame}");
+        assert!(rt; answering().push(frame.as_bytes()) == (20, told), "{frame}");
     }
     let rejection = "MPA ID Rep Frame\x60\x01\0\0".as_bytes();
     let told = Progress::Faulted(StartupFault::Rejected);
-    assert_eq!(rt; asking().push(rejection), (20, told));
+    assert!(rt; asking().push(rejection) == (20, told));
 }
 
 fn name_of(progress: Progress) -> &'static str {
@@ -257,9 +257,9 @@ fn replies_in_kind(rt: HostRuntime) -> Result<(), Fail> {
         let (accepting, rejecting) = replies.split_once(' ').ok_or("two Replies")?;
         let request = frame_of(rt.alloc(), REQUEST_KEY, request)?;
         let accepted = reply_digits(rt.alloc(), &request, true)?;
-        assert_eq!(rt; accepted.strip_prefix(REPLY_KEY), Some(accepting));
+        assert!(rt; accepted.strip_prefix(REPLY_KEY) == Some(accepting));
         let rejected = reply_digits(rt.alloc(), &request, false)?;
-        assert_eq!(rt; rejected.strip_prefix(REPLY_KEY), Some(rejecting));
+        assert!(rt; rejected.strip_prefix(REPLY_KEY) == Some(rejecting));
     }
     Ok(())
 }
@@ -269,15 +269,14 @@ fn replies_in_kind(rt: HostRuntime) -> Result<(), Fail> {
 fn requests_by_the_option(rt: HostRuntime) {
     let enhanced = Startup::initiator(config(false, false, Establishment::Enhanced));
     let peer_to_peer = Startup::initiator(config(false, false, Establishment::PeerToPeer));
-    assert_eq!(rt;
-        enhanced.frame().as_slice(),
-        b"MPA ID Req Frame\x10\x02\0\x04\0\x10\0\x10".as_slice()
+    assert!(rt;
+        enhanced.frame().as_slice() == b"MPA ID Req Frame\x10\x02\0\x04\0\x10\0\x10".as_slice()
     );
-    assert_eq!(rt;
-        peer_to_peer.frame().as_slice(),
-        b"MPA ID Req Frame\x10\x02\0\x04\x80\x10\xc0\x10".as_slice()
+    assert!(rt;
+        peer_to_peer.frame().as_slice()
+            == b"MPA ID Req Frame\x10\x02\0\x04\x80\x10\xc0\x10".as_slice()
     );
-    assert_eq!(rt; peer_to_peer.frame_len(), 24);
+    assert!(rt; peer_to_peer.frame_len() == 24);
 }
 
 // Without the option revision 2 is refused, and S in revision 1 is not looked at.
@@ -285,10 +284,10 @@ fn requests_by_the_option(rt: HostRuntime) {
 fn revision_1_alone(rt: HostRuntime) -> Result<(), Fail> {
     let revision_2 = frame_of(rt.alloc(), REQUEST_KEY, "1002000400040004")?;
     let fault = Progress::Faulted(StartupFault::BadRev);
-    assert_eq!(rt; answering().push(&revision_2), (20, fault));
+    assert!(rt; answering().push(&revision_2) == (20, fault));
     let reply = frame_of(rt.alloc(), REPLY_KEY, "1002000400040004")?;
-    assert_eq!(rt; asking().push(&reply), (20, fault));
+    assert!(rt; asking().push(&reply) == (20, fault));
     let flagged = frame_of(rt.alloc(), REQUEST_KEY, "10010000")?;
-    assert_eq!(rt; answering().push(&flagged), (20, Progress::Asked));
+    assert!(rt; answering().push(&flagged) == (20, Progress::Asked));
     Ok(())
 }

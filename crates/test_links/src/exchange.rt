@@ -77,10 +77,7 @@ fn cut_lines(alloc: Global) -> Result<Vec<u8>, Fail> {
 #[test]
 fn an_early_end_is_broken(rt: HostRuntime) -> Result<(), Fail> {
     let text = cut_lines(rt.alloc())?;
-    assert_eq!(rt;
-        text.as_slice(),
-        b"00 --b 00\n20 --b 24\n72 r-- 52\n".as_slice()
-    );
+    assert!(rt; text.as_slice() == b"00 --b 00\n20 --b 24\n72 r-- 52\n".as_slice());
     Ok(())
 }
 
@@ -119,10 +116,10 @@ const INTERRUPTED: &[u8] = b"r-- 52\nr-- 72\nr-- 52\nr-- 72\n";
 #[test]
 fn a_failed_call_breaks_the_link(rt: HostRuntime) -> Result<(), Fail> {
     let text = failing_lines(rt.alloc(), ErrorKind::ConnectionReset)?;
-    assert_eq!(rt; text.as_slice(), FAILED);
+    assert!(rt; text.as_slice() == FAILED);
     let text = failing_lines(rt.alloc(), ErrorKind::Interrupted)?;
     for lines in text.as_slice().chunks(INTERRUPTED.len()) {
-        assert_eq!(rt; lines, INTERRUPTED);
+        assert!(rt; lines == INTERRUPTED);
     }
     Ok(())
 }
@@ -157,7 +154,7 @@ fn endless(alloc: Global, row: Row, octets: &[u8]) -> Result<(Report, u32), Fail
 fn an_input_without_end_is_broken(rt: HostRuntime) -> Result<(), Fail> {
     let (report, reads) = endless(rt.alloc(), PLAIN, &PLAIN.asked[..20])?;
     assert!(rt; report.broken && report.received.is_none() && report.ended.is_some());
-    assert_eq!(rt; reads, MOST_READS);
+    assert!(rt; reads == MOST_READS);
     Ok(())
 }
 
@@ -187,8 +184,8 @@ fn a_reply_at_fault_closes(rt: HostRuntime) -> Result<(), Fail> {
     let asked = asking(rt.alloc(), PLAIN, PLAIN.asked, halts)?;
     let closed = Some(Ended::Closed(StartupFault::BadKey));
     assert!(rt; asked.report.ended == closed && !asked.report.broken && !asked.is_ended);
-    assert_eq!(rt; asked.written.as_slice(), &PLAIN.asked[..20]);
-    assert_eq!(rt; asked.reads, 5);
+    assert!(rt; asked.written.as_slice() == &PLAIN.asked[..20]);
+    assert!(rt; asked.reads == 5);
     Ok(())
 }
 
@@ -205,9 +202,9 @@ fn written_at_once(alloc: Global, row: Row) -> Result<Vec<u8>, Fail> {
 #[test]
 fn the_answer_follows_the_send_at_once_by_revision_2(rt: HostRuntime) -> Result<(), Fail> {
     let written = written_at_once(rt.alloc(), ENHANCED)?;
-    assert_eq!(rt; written.as_slice(), ENHANCED.served);
+    assert!(rt; written.as_slice() == ENHANCED.served);
     let written = written_at_once(rt.alloc(), PLAIN)?;
-    assert_eq!(rt; written.as_slice(), &PLAIN.served[..24]);
+    assert!(rt; written.as_slice() == &PLAIN.served[..24]);
     Ok(())
 }
 

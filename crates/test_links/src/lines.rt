@@ -145,7 +145,7 @@ fn what_became_of_each_caller_is_printed(rt: HostRuntime) -> Result<(), Fail> {
     let mut print = Vec::new(rt.alloc());
     let status = serve(rt.alloc(), CALLERS, PLAIN, 10, &mut print);
     assert_eq!(rt; str::from_utf8(print.as_slice()), Ok(SERVED));
-    assert_eq!(rt; status, Some(Status::Failed));
+    assert!(rt; status == Some(Status::Failed));
     Ok(())
 }
 
@@ -154,7 +154,7 @@ fn what_became_of_each_request_is_printed(rt: HostRuntime) -> Result<(), Fail> {
     let mut print = Vec::new(rt.alloc());
     let status = ask(rt.alloc(), REPLIERS, PLAIN, 7, &mut print);
     assert_eq!(rt; str::from_utf8(print.as_slice()), Ok(ASKED));
-    assert_eq!(rt; status, Some(Status::Failed));
+    assert!(rt; status == Some(Status::Failed));
     Ok(())
 }
 
@@ -163,7 +163,7 @@ fn callers_by_both_revisions_are_served(rt: HostRuntime) -> Result<(), Fail> {
     let mut print = Vec::new(rt.alloc());
     let status = serve(rt.alloc(), ENHANCED_CALLERS, ENHANCED, 3, &mut print);
     assert_eq!(rt; str::from_utf8(print.as_slice()), Ok(ENHANCED_SERVED));
-    assert_eq!(rt; status, Some(Status::Failed));
+    assert!(rt; status == Some(Status::Failed));
     Ok(())
 }
 
@@ -172,7 +172,7 @@ fn replies_by_revision_2_are_taken_alone(rt: HostRuntime) -> Result<(), Fail> {
     let mut print = Vec::new(rt.alloc());
     let status = ask(rt.alloc(), ENHANCED_REPLIERS, ENHANCED, 4, &mut print);
     assert_eq!(rt; str::from_utf8(print.as_slice()), Ok(ENHANCED_ASKED));
-    assert_eq!(rt; status, Some(Status::Failed));
+    assert!(rt; status == Some(Status::Failed));
     Ok(())
 }
 
@@ -183,6 +183,6 @@ fn revision_2_is_closed_without_the_option(rt: HostRuntime) -> Result<(), Fail> 
     let status = serve(rt.alloc(), ENHANCED_CALLERS, PLAIN, 1, &mut print);
     let told = str::from_utf8(print.as_slice());
     assert_eq!(rt; told, Ok("stream 0 closed 2 BadRev\n"));
-    assert_eq!(rt; status, Some(Status::Failed));
+    assert!(rt; status == Some(Status::Failed));
     Ok(())
 }

@@ -95,8 +95,8 @@ fn pairs(alloc: Global) -> Result<Vec<Pair>, Fail> {
 fn worked_rows_are_among_them(rt: HostRuntime) -> Result<(), Fail> {
     for row in [MARKERS, CRC, PLAIN, ENHANCED] {
         let pair = exchanged(rt.alloc(), row, row)?;
-        assert_eq!(rt; pair.asked.as_slice(), row.asked);
-        assert_eq!(rt; pair.served.as_slice(), row.served);
+        assert!(rt; pair.asked.as_slice() == row.asked);
+        assert!(rt; pair.served.as_slice() == row.served);
     }
     Ok(())
 }

@@ -13,7 +13,7 @@ use test_support::{Endless, Halting};
 fn reads_port(rt: &impl Abort, alloc: Global, text: &str, port: Option<u16>) {
     let mut pipe = Counted::new(Halting::new(text.as_bytes(), 2));
     let found = read_port(alloc, &mut pipe);
-    assert_eq!(rt; found, port.ok_or(CommandFault::Program), "in {text:?}");
+    assert!(rt; found == port.ok_or(CommandFault::Program), "in {text:?}");
 }
 
 #[test]
@@ -46,26 +46,20 @@ fn port_read(alloc: Global, call: u64, kind: ErrorKind) -> (Result<u16, CommandF
 fn a_port_line_that_fails_is_none(rt: HostRuntime) -> Result<(), Fail> {
     for call in 1..=10u64 {
         let (port, reads) = port_read(rt.alloc(), call, ErrorKind::BrokenPipe);
-        assert_eq!(rt; port, Err(CommandFault::Program), "at read {call}");
-        assert_eq!(rt; reads as u64, call);
+        assert!(rt; port == Err(CommandFault::Program), "at read {call}");
+        assert!(rt; reads as u64 == call);
         let (port, _) = port_read(rt.alloc(), call, ErrorKind::Interrupted);
-        assert_eq!(rt; port, Ok(4_420), "at read {call}");
+        assert!(rt; port == Ok(4_420), "at read {call}");
     }
-    assert_eq!(rt;
-        port_read(rt.alloc(), 11, ErrorKind::BrokenPipe).0,
-        Ok(4_420)
-    );
+    assert!(rt; port_read(rt.alloc(), 11, ErrorKind::BrokenPipe).0 == Ok(4_420));
     Ok(())
 }
 
 #[test]
 fn octets_without_end_are_no_port(rt: HostRuntime) -> Result<(), Fail> {
     let mut pipe = Counted::new(Endless::new(b'p'));
-    assert_eq!(rt;
-        read_port(rt.alloc(), &mut pipe),
-        Err(CommandFault::Program)
-    );
-    assert_eq!(rt; pipe.reads, 11);
+    assert!(rt; read_port(rt.alloc(), &mut pipe) == Err(CommandFault::Program));
+    assert!(rt; pipe.reads == 11);
     Ok(())
 }
 
@@ -74,7 +68,7 @@ fn a_pipe_without_end_is_read_a_million_times(rt: HostRuntime) -> Result<(), Fai
     let mut pipe = Counted::new(Endless::new(b'p'));
     let mut buffer = [0; 1];
     assert!(rt; !drain(&mut pipe, &mut buffer));
-    assert_eq!(rt; pipe.reads, 1_000_000);
+    assert!(rt; pipe.reads == 1_000_000);
     Ok(())
 }
 
@@ -117,7 +111,10 @@ fn a_pipe_that_fails_is_told(rt: HostRuntime) -> Result<(), Fail> {
     for (call, is_whole) in [(1, false), (2, false), (3, true)] {
         let status = Status::Completed;
         let talked = talked(rt.alloc(), REPLIERS, call);
-        assert_eq!(rt; talked, Some(Talked { status, is_whole }), "at read {call}");
+        assert!(rt;
+            talked == Some(Talked { status, is_whole }),
+            "at read {call}"
+        );
     }
     Ok(())
 }
@@ -126,12 +123,12 @@ fn a_pipe_that_fails_is_told(rt: HostRuntime) -> Result<(), Fail> {
 fn a_process_that_is_not_met_is_told(rt: HostRuntime) -> Result<(), Fail> {
     let talked = talked(rt.alloc(), "-\n", 3);
     let status = Status::Failed;
-    assert_eq!(rt;
-        talked,
-        Some(Talked {
-            status,
-            is_whole: false
-        })
+    assert!(rt;
+        talked
+            == Some(Talked {
+                status,
+                is_whole: false
+            })
     );
     Ok(())
 }

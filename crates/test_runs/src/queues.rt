@@ -85,16 +85,16 @@ fn messages_are_sent_and_done_in_order(rt: HostRuntime) -> Result<(), Fail> {
         (128, (3, 0, 0, true)),
     ];
     for (max, part) in parts {
-        assert_eq!(rt; sent(&rt, &mut queue, max), part);
+        assert!(rt; sent(&rt, &mut queue, max) == part);
     }
     assert!(rt; queue.awaits(1));
     queue.finish(1);
     for (ticket, kind) in [(0, Kind::Write), (1, Kind::Read), (2, Kind::Send)] {
-        assert_eq!(rt; queue.next(), Some(Done { ticket, kind }));
+        assert!(rt; queue.next() == Some(Done { ticket, kind }));
     }
-    assert_eq!(rt; queue.len(), 1);
+    assert!(rt; queue.len() == 1);
     let kind = Kind::Send;
-    assert_eq!(rt; queue.flush(), Some(Done { ticket: 3, kind }));
+    assert!(rt; queue.flush() == Some(Done { ticket: 3, kind }));
     assert!(rt; queue.is_empty());
     Ok(())
 }

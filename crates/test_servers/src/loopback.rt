@@ -145,9 +145,9 @@ fn check_served<R: Abort + AllocGlobal + Net + Clock>(rt: &R) -> Result<(), Fail
     let Ok(tally) = serve(rt.alloc(), TERMS, CLIENTS, &mut town, &mut text) else {
         return Err("not served".into());
     };
-    assert_eq!(rt; tally.begun, CLIENTS);
-    assert_eq!(rt; tally.failed, 0);
-    assert_eq!(rt; count_answered(&town.clients), CLIENTS as usize);
+    assert!(rt; tally.begun == CLIENTS);
+    assert!(rt; tally.failed == 0);
+    assert!(rt; count_answered(&town.clients) == CLIENTS as usize);
     Ok(())
 }
 

@@ -47,12 +47,12 @@ fn check_all<R: Abort + AllocGlobal>(
 ) -> Result<(), Fail> {
     let mut crowd = Crowd::new(rt.alloc(), asks, most, count);
     let (tally, lines) = served(rt.alloc(), &mut crowd, 1_000_000)?;
-    assert_eq!(rt; tally.begun, u64::from(count));
-    assert_eq!(rt; tally.failed, 0);
-    assert_eq!(rt; crowd.answered, count);
-    assert_eq!(rt; crowd.wronged, 0);
-    assert_eq!(rt; crowd.domains, domains);
-    assert_eq!(rt; lines, count as usize);
+    assert!(rt; tally.begun == u64::from(count));
+    assert!(rt; tally.failed == 0);
+    assert!(rt; crowd.answered == count);
+    assert!(rt; crowd.wronged == 0);
+    assert!(rt; crowd.domains == domains);
+    assert!(rt; lines == count as usize);
     Ok(())
 }
 
@@ -72,9 +72,9 @@ fn silent_peers_are_dropped(rt: HostRuntime) -> Result<(), Fail> {
     let mut crowd = Crowd::new(rt.alloc(), PLAIN, 64, 100);
     crowd.is_silent = true;
     let (tally, lines) = served(rt.alloc(), &mut crowd, 60)?;
-    assert_eq!(rt; tally.begun, 100);
-    assert_eq!(rt; tally.failed, 100);
-    assert_eq!(rt; lines, 0);
+    assert!(rt; tally.begun == 100);
+    assert!(rt; tally.failed == 100);
+    assert!(rt; lines == 0);
     Ok(())
 }
 
@@ -84,10 +84,10 @@ fn failed_sockets_end_alone(rt: HostRuntime) -> Result<(), Fail> {
     let mut crowd = Crowd::new(rt.alloc(), BOTH, 64, 90);
     crowd.has_broken = true;
     let (tally, lines) = served(rt.alloc(), &mut crowd, 1_000_000)?;
-    assert_eq!(rt; tally.begun, 90);
-    assert_eq!(rt; tally.failed, 30);
-    assert_eq!(rt; crowd.answered, 60);
-    assert_eq!(rt; crowd.wronged, 0);
-    assert_eq!(rt; lines, 60);
+    assert!(rt; tally.begun == 90);
+    assert!(rt; tally.failed == 30);
+    assert!(rt; crowd.answered == 60);
+    assert!(rt; crowd.wronged == 0);
+    assert!(rt; lines == 60);
     Ok(())
 }
