@@ -1,4 +1,5 @@
-//! Replays the schedules of its folder, and compares what each writes, and its status, with what is expected.
+//! Replays the schedules that the file `rows` of its folder names, and compares what each writes, and its status, with what
+//! is expected. A line of it has a name, and `completed`, `faulted` or `refused` and the reason.
 //!
 //! Then it refuses memory. First each request of the replay in turn, which ends the replay; then each request of each
 //! call of the two endpoints in turn, after which the same call is made again, and the trace must be the same.
@@ -13,6 +14,7 @@
 mod refused;
 mod soak;
 
+use anyhow::bail;
 use iw_program::{ReplayFault, Status, replay};
 use refused::{Counts, each_refused, made_again};
 use std::alloc::{AllocError, Global};
@@ -21,126 +23,35 @@ use std::process::ExitCode;
 use std::rt::Runtime;
 
 /// How a replay must end.
-#[derive(Clone, Copy, Debug)]
-enum Ending {
+#[derive(Clone, Copy)]
+enum Ending<'a> {
     /// The trace is written, and no stream ended by a fault.
     Completed,
     /// The trace is written, and a stream ended by a fault.
     Faulted,
     /// Nothing is written, and this reason is printed.
-    Refused(&'static str),
+    Refused(&'a str),
 }
 
-/// The schedules, by the names of their files, `NAME.schedule`. The trace of one that has a trace is in `NAME.trace`.
-const ROWS: [(&str, Ending); 95] = [
-    ("first", Ending::Completed),
-    ("one-write", Ending::Completed),
-    ("empty-messages", Ending::Completed),
-    ("octets-stay", Ending::Completed),
-    ("past-the-last-offset", Ending::Faulted),
-    ("hostile-write", Ending::Faulted),
-    ("one-send-with-markers", Ending::Completed),
-    ("a-send-of-two-segments", Ending::Completed),
-    ("the-later-part-comes-first", Ending::Completed),
-    ("invalidated-between-two-parts", Ending::Faulted),
-    ("the-window", Ending::Completed),
-    ("one-island-too-many", Ending::Completed),
-    ("first-copies-stay", Ending::Completed),
-    ("a-changed-pad-octet", Ending::Faulted),
-    ("markers-and-crc", Ending::Completed),
-    ("another-domains-stag", Ending::Faulted),
-    ("the-last-tagged-offset", Ending::Faulted),
-    ("a-message-too-many", Ending::Completed),
-    ("sizes-of-a-ulpdu", Ending::Completed),
-    ("start-up-and-a-send-each-way", Ending::Completed),
-    ("a-rejected-start-up", Ending::Faulted),
-    ("an-initiator-is-given-a-request", Ending::Faulted),
-    ("a-request-in-two-deliveries", Ending::Completed),
-    ("a-request-cut-at-each-octet", Ending::Completed),
-    ("answers-that-were-not-asked-for", Ending::Completed),
-    ("start-up-octet-by-octet", Ending::Completed),
-    ("start-up", Ending::Completed),
-    ("an-enhanced-start-up", Ending::Faulted),
-    ("an-enhanced-start-up-cut-at-each-octet", Ending::Completed),
-    ("hostile-enhanced-start-up", Ending::Faulted),
-    ("an-ord-of-one", Ending::Completed),
-    ("peer-to-peer", Ending::Completed),
-    ("many-segments", Ending::Completed),
-    ("a-frame-placed-before-its-turn", Ending::Completed),
-    ("a-placed-frame-is-not-checked-again", Ending::Faulted),
-    ("a-placed-frame-whose-region-is-gone", Ending::Faulted),
-    ("a-repeated-early-frame", Ending::Completed),
-    ("a-response-placed-before-its-turn", Ending::Completed),
-    ("a-tried-frame-is-judged-at-its-turn", Ending::Completed),
-    ("a-tried-frame-changes-no-memory", Ending::Completed),
-    ("a-frame-over-a-placed-one", Ending::Faulted),
-    ("a-placed-frame-past-markers-that-agree", Ending::Faulted),
-    ("a-send-placed-before-its-turn", Ending::Completed),
-    ("a-send-that-waits-for-a-write", Ending::Completed),
-    ("a-break-after-an-early-send", Ending::Completed),
-    ("an-early-send-at-a-wrong-offset", Ending::Faulted),
-    ("the-low-bits-of-a-pointer", Ending::Completed),
-    ("a-pointer-into-a-placed-frame", Ending::Completed),
-    ("capture", Ending::Completed),
-    ("reads", Ending::Faulted),
-    ("a-seventeenth-read-waits", Ending::Completed),
-    ("a-source-is-invalidated-between-two-parts", Ending::Faulted),
-    ("read-requests-that-are-denied", Ending::Faulted),
-    ("a-request-too-many", Ending::Faulted),
-    ("a-response-that-ends-too-early", Ending::Faulted),
-    ("a-send-that-no-buffer-takes", Ending::Faulted),
-    ("no-send-after-a-fault", Ending::Faulted),
-    ("solicited-and-invalidating-sends", Ending::Completed),
-    ("a-write-after-an-invalidation", Ending::Faulted),
-    ("an-invalidation-without-the-right", Ending::Faulted),
-    ("invalidations-that-are-denied", Ending::Faulted),
-    ("a-read-whose-source-was-invalidated", Ending::Faulted),
-    ("terminate", Ending::Faulted),
-    ("terminates-that-come", Ending::Faulted),
-    ("numbers-that-wrap", Ending::Completed),
-    ("places-before-a-stream", Ending::Completed),
-    ("a-shared-pool", Ending::Completed),
-    ("streams-that-share-a-pool", Ending::Faulted),
-    ("one-more-buffer-in-the-pool", Ending::Completed),
-    ("a-domain-without-a-pool", Ending::Completed),
-    ("a-pool-that-is-full", Ending::Completed),
-    ("a-bound-buffer-that-came-early", Ending::Faulted),
-    ("break", Ending::Completed),
-    ("a-break-in-the-middle-of-a-send", Ending::Completed),
-    ("a-broken-stream-hands-back", Ending::Completed),
-    ("refusals-of-memory", Ending::Completed),
-    ("refusals-of-streams", Ending::Faulted),
-    ("every-fault", Ending::Faulted),
-    ("every-fault-with-markers", Ending::Faulted),
-    ("a-victim-among-attackers", Ending::Faulted),
-    ("the-victim-alone", Ending::Completed),
-    ("what-is-too-long", Ending::Completed),
-    ("options-out-of-order", Ending::Refused("line 1: BadOctets")),
-    ("empty", Ending::Completed),
-    ("unknown-word", Ending::Refused("line 2: BadWord")),
-    ("number-too-large", Ending::Refused("line 1: BadNumber")),
-    ("too-often", Ending::Refused("line 1: BadNumber")),
-    (
-        "a-sequence-number-too-large",
-        Ending::Refused("line 3: BadNumber"),
-    ),
-    (
-        "a-first-number-too-large",
-        Ending::Refused("line 3: BadNumber"),
-    ),
-    ("odd-digits", Ending::Refused("line 1: BadOctets")),
-    (
-        "an-stag-where-the-kind-has-none",
-        Ending::Refused("line 1: BadNumber"),
-    ),
-    (
-        "no-stag-where-the-kind-has-one",
-        Ending::Refused("line 1: BadNumber"),
-    ),
-    ("too-many-events", Ending::Refused("line 11: TooMany")),
-    ("never-opened", Ending::Refused("event 1: NoSuchStream")),
-    ("not-sent", Ending::Refused("event 5: NotSent")),
-];
+/// A schedule, in the file `NAME.schedule`. Its trace, if it has one, is in `NAME.trace`.
+#[derive(Clone, Copy)]
+struct Row<'a> {
+    name: &'a str,
+    ending: Ending<'a>,
+}
+
+// What a line says: the name, and how the replay ends.
+fn row_of(line: &str) -> Option<Row<'_>> {
+    let (name, ending) = line.split_once(' ')?;
+    let ending = if ending == "completed" {
+        Ending::Completed
+    } else if ending == "faulted" {
+        Ending::Faulted
+    } else {
+        Ending::Refused(ending.strip_prefix("refused ")?)
+    };
+    Some(Row { name, ending })
+}
 
 /// How a replay differs from what is expected.
 #[derive(Clone, Copy, Debug)]
@@ -159,7 +70,7 @@ enum Difference {
 fn expected<R: Runtime + AllocGlobal>(
     rt: &R,
     name: &str,
-    ending: Ending,
+    ending: Ending<'_>,
 ) -> anyhow::Result<Vec<u8>> {
     match ending {
         Ending::Refused(_) => Ok(Vec::new(rt.alloc())),
@@ -187,7 +98,7 @@ fn first_difference(written: &[u8], expected: &[u8]) -> usize {
 fn ends_so(
     alloc: Global,
     ended: Result<Status, ReplayFault>,
-    ending: Ending,
+    ending: Ending<'_>,
 ) -> Result<bool, AllocError> {
     Ok(match (ended, ending) {
         (Ok(Status::Completed), Ending::Completed) => true,
@@ -203,7 +114,7 @@ fn compare(
     alloc: Global,
     schedule: &[u8],
     trace: &[u8],
-    ending: Ending,
+    ending: Ending<'_>,
 ) -> Result<Option<Difference>, AllocError> {
     let mut input = schedule;
     let mut written = Vec::new(alloc);
@@ -222,7 +133,7 @@ fn compare(
 fn compare_refused<R: Runtime + AllocGlobal>(
     rt: &R,
     name: &str,
-    ending: Ending,
+    ending: Ending<'_>,
     schedule: &[u8],
     trace: &[u8],
     counts: &mut Counts,
@@ -243,7 +154,7 @@ fn compare_refused<R: Runtime + AllocGlobal>(
 fn compare_row<R: Runtime + AllocGlobal>(
     rt: &R,
     name: &str,
-    ending: Ending,
+    ending: Ending<'_>,
     counts: &mut Counts,
 ) -> anyhow::Result<Option<Difference>> {
     let path = format!(in rt.alloc(); "{name}.schedule")?;
@@ -276,12 +187,15 @@ fn print_calls<R: Runtime + AllocGlobal>(rt: &R, counts: &Counts) -> anyhow::Res
 // Whether each of these rows is as written; prints a line for each.
 fn replay_each<R: Runtime + AllocGlobal>(
     rt: &R,
-    rows: &[(&str, Ending)],
+    rows: &str,
     counts: &mut Counts,
 ) -> anyhow::Result<bool> {
     let mut is_whole = true;
-    for (name, ending) in rows {
-        match compare_row(rt, name, *ending, counts)? {
+    for line in rows.lines() {
+        let Some(Row { name, ending }) = row_of(line) else {
+            bail!("no row: {line}");
+        };
+        match compare_row(rt, name, ending, counts)? {
             None => println!(rt; "{name}: as written")?,
             Some(difference) => {
                 println!(rt; "{name}: not as written, {difference:?}")?;
@@ -294,7 +208,8 @@ fn replay_each<R: Runtime + AllocGlobal>(
 
 fn replay_rows<R: Runtime + AllocGlobal>(rt: &R) -> anyhow::Result<ExitCode> {
     let mut counts = Counts::new();
-    let is_written = replay_each(rt, &ROWS, &mut counts)?;
+    let rows = fs::read_to_string(rt, "rows")?;
+    let is_written = replay_each(rt, rows.as_str(), &mut counts)?;
     let is_called = print_calls(rt, &counts)?;
     if is_written && is_called {
         Ok(ExitCode::SUCCESS)
