@@ -1,11 +1,13 @@
 ghost use Rattle.std.specs.Prelude.{◌≡◌, ◌+◌, ◌-◌, ◌<◌, ◌≤◌, [], true, length, vec_len};
-ghost use Rattle.std.specs.Prelude.{None, Some, option_copied, is_some, IsSome, IfSome, IfNone, IsTrue};
+ghost use Rattle.std.specs.Prelude.{None, Some, option_copied, is_some, IsSome, IfSome, IfNone, IsTrue, if◌then◌else◌};
 ghost use Rattle.std.specs.Prelude.{is_ok, IfOk, IfErr, IsErr, OnOk, OnErr};
 ghost use Rattle.std.specs.Result.{result_err, result_ok};
 ghost use Rattle.std.specs.Option.{option_map};
 ghost use Rattle.std.specs.Borrow.{sem};
 ghost use Rattle.iw_kept.specs.Octets.{octets_of, is_kept};
 ghost use Rattle.iw_memory.specs.Forms.{region_of, own_refusal, kept_refusal};
+ghost use Rattle.iw_memory.specs.Inside.{IsSound, AreShared, link_of, table_of};
+ghost use Rattle.iw_memory.specs.Table.{region_at, deregistered};
 
 use crate::domain_slots::MAX_SLOTS;
 use crate::peer::Peer;
@@ -375,14 +377,7 @@ impl<A: Allocator> Memory<A> {
         let Some(at) = self.domains.find(stag) else {
             return Err(NoRegion);
         };
-        let stored = self.regions.remove(at);
-        let free = Slot {
-            key: stag.key().wrapping_add(1),
-            at: None,
-        };
-        self.domains
-            .set_slot(stag.domain(), stag.slot() as usize, free);
-        Ok(stored.into_octets())
+        Ok(take_at(&mut self.domains, &mut self.regions, stag, at))
     }
 
     /// Takes a region out, valid or not, and gives the vector back that has its octets. `OtherMemory`: a program keeps them
@@ -393,14 +388,10 @@ impl<A: Allocator> Memory<A> {
         ensures ok { OnOk result (self.new ≡ deregistered self.old stag) }
         ensures err { OnErr result (self.new ≡ self.old) }
     {
-        match self.is_kept(stag) {
-            Some(false) => {}
-            Some(true) => return Err(DeregisterRefusal::OtherMemory),
-            None => return Err(DeregisterRefusal::NoRegion),
-        }
-        match self.take_region(stag) {
+        match self.take_form(stag, false) {
             Ok(RegionOctets::Own(octets)) => Ok(octets),
-            _ => unreachable!(),
+            Ok(RegionOctets::Kept(_)) => unreachable!(),
+            Err(refusal) => Err(refusal),
         }
     }
 
@@ -412,15 +403,29 @@ impl<A: Allocator> Memory<A> {
         ensures ok { OnOk result (self.new ≡ deregistered self.old stag) }
         ensures err { OnErr result (self.new ≡ self.old) }
     {
-        match self.is_kept(stag) {
-            Some(true) => {}
-            Some(false) => return Err(DeregisterRefusal::OtherMemory),
-            None => return Err(DeregisterRefusal::NoRegion),
-        }
-        match self.take_region(stag) {
+        match self.take_form(stag, true) {
             Ok(RegionOctets::Kept(octets)) => Ok(octets),
-            _ => unreachable!(),
+            Ok(RegionOctets::Own(_)) => unreachable!(),
+            Err(refusal) => Err(refusal),
         }
+    }
+
+    // Takes a region out, valid or not, if its octets are in this form: memory that a program keeps, or a vector's. An
+    // `Err` changes nothing.
+    fn take_form(&mut self, stag: Stag, kept: bool) -> Result<RegionOctets<A>, DeregisterRefusal>
+        ensures refused { result_err result ≡ (if kept then kept_refusal self.old stag else own_refusal self.old stag) }
+        ensures octets { IfOk result (λ o. Some (octets_of o) ≡ option_map (λ r. r.octets) (region_at self.old stag)) }
+        ensures form { IfOk result (λ o. is_kept o ≡ kept) }
+        ensures ok { OnOk result (self.new ≡ deregistered self.old stag) }
+        ensures err { OnErr result (self.new ≡ self.old) }
+    {
+        let Some(at) = self.domains.find(stag) else {
+            return Err(DeregisterRefusal::NoRegion);
+        };
+        if self.regions[at].is_kept() != kept {
+            return Err(DeregisterRefusal::OtherMemory);
+        }
+        Ok(take_at(&mut self.domains, &mut self.regions, stag, at))
     }
 
     /// Ends the use of a region by peers. It stays registered, and keeps its slot; an invalid region stays as it is.
@@ -732,4 +737,29 @@ impl<A: Allocator> Memory<A> {
         let key = self.domains.find(stag).unwrap();
         self.regions[key].part_mut(to, n)
     }
+}
+
+// Takes out the region that the STag names, which is stored there.
+#[inline(always)]
+fn take_at<A: Allocator>(
+    domains: &mut Domains<A>,
+    regions: &mut Slab<Stored<A>, A>,
+    stag: Stag,
+    at: usize,
+) -> RegionOctets<A>
+    requires sound { IsSound domains.old regions.old }
+    requires found { link_of domains.old stag ≡ Some at }
+    ensures octets { Some (octets_of result) ≡ option_map (λ r. r.octets) (region_at (table_of domains.old regions.old) stag) }
+    ensures kept { Some (is_kept result) ≡ option_map (λ r. r.kept) (region_at (table_of domains.old regions.old) stag) }
+    ensures after { table_of domains.new regions.new ≡ deregistered (table_of domains.old regions.old) stag }
+    ensures sound { IsSound domains.new regions.new }
+    ensures shared { AreShared regions.old → AreShared regions.new }
+{
+    let stored = regions.remove(at);
+    let free = Slot {
+        key: stag.key().wrapping_add(1),
+        at: None,
+    };
+    domains.set_slot(stag.domain(), stag.slot() as usize, free);
+    stored.into_octets()
 }
