@@ -10,7 +10,8 @@ use std::alloc::Allocator;
 use std::io::{self, Read};
 
 /// Reads once from a stream's connection, right to where the octets are to stand ([`Endpoint::read_from`]). What was read is
-/// delivered, past all that came before, and none of it is dropped unless the stream has ended.
+/// delivered, past all that came before, and none of it is dropped unless the stream has ended. It asks for 4,096 octets at
+/// first, and for four times as many, 65,536 at most, behind a read that brought all that it asked for.
 ///
 /// `Refused` has the error of the reader, also if the read would block or was interrupted, or one of the kind
 /// `OutOfMemory`: nothing was read. An `Err` changes nothing.

@@ -37,8 +37,8 @@ use iw_memory::{
 };
 use iw_octets::Octets;
 use iw_stream::{
-    Agreed, AnswerRefusal, Delivery, Emission, EnhancedData, FirstRefusal, Intake, MOST_READ,
-    PeerOptions, PostRefusal, PrivateData, RecvRefusal, Request, SizeRefusal, Standing, Step,
+    Agreed, AnswerRefusal, Delivery, Emission, EnhancedData, FirstRefusal, Intake, PeerOptions,
+    PostRefusal, PrivateData, RecvRefusal, Request, SizeRefusal, Standing, Step,
 };
 use iw_untagged::BufferRefusal;
 use std::alloc::{AllocError, Allocator, Global};
@@ -435,6 +435,9 @@ impl<A: Allocator> Endpoint<A> {
     /// unless the stream has ended: such a stream still reads, and drops. The first octet that is read has the sequence number
     /// of [`Endpoint::first_number`], if nothing came before.
     ///
+    /// A stream's first read asks for 4,096 octets, and one behind a read that brought all that it asked for, for four times as
+    /// many. So a connection that brings little keeps little memory.
+    ///
     /// `Refused` has the error of the reader, also if the read would block or was interrupted, or one of the kind
     /// `OutOfMemory`. Nothing was read then. An `Err` changes nothing.
     pub fn read_from<R: Read>(
@@ -446,7 +449,13 @@ impl<A: Allocator> Endpoint<A> {
         ensures ok { IfOk result (λ intake. IsRead self.old self.new number (R.remaining from.old) (R.remaining from.new) intake) }
         ensures err { OnErr result ((self.new ≡ self.old) × Keeps (R.remaining from.old) (R.remaining from.new)) }
     {
-        self.read_some(number, from, MOST_READ)
+        match self.streams.get_mut(number) {
+            Some(stream) => match stream.read_from(from) {
+                Ok(intake) => Ok(intake),
+                Err(error) => Err(CallRefusal::Refused(error)),
+            },
+            None => Err(CallRefusal::NoSuchStream),
+        }
     }
 
     /// As [`Endpoint::read_from`], but at most `most` octets are read, 1 if `most` is 0, and memory is asked for and cleared for

@@ -10,6 +10,28 @@ use iw_ranges::{Islands, WINDOW};
 use std::alloc::Allocator;
 use std::io::{self, Read};
 
+// For how many octets the first read of a stream asks.
+const FIRST_READ: usize = 4_096;
+
+// For how many times as many the next one asks, where one brought all that it asked for.
+const GROWTH: usize = 4;
+
+// For how many octets a read asks at a stream that has memory for so many: for no more than that, but 4,096 at least and
+// 65,536 at most.
+fn asked_with(memory: usize) -> usize
+    ensures some { 4096 ≤ result }
+    ensures most { result ≤ 65536 }
+    ensures few { result ≤ max 4096 memory }
+{
+    if memory >= MOST_READ {
+        MOST_READ
+    } else if memory >= FIRST_READ * GROWTH {
+        FIRST_READ * GROWTH
+    } else {
+        FIRST_READ
+    }
+}
+
 // One read of at most `n` octets to where they stand past the last that came. They are not counted as come.
 fn read_ahead<A: Allocator, R: Read>(
     islands: &mut Islands<A>,
@@ -59,6 +81,25 @@ impl<A: Allocator> Incoming<A> {
         ensures { result ≡ room_ahead self.now.arrived }
     {
         (self.islands.floor() + WINDOW - self.islands.end()) as usize
+    }
+
+    /// For how many octets the next read is to ask, 4,096 to 65,536: for no more than there is memory for, from 4,096 on.
+    pub(crate) fn asked_next(&self) -> usize
+        ensures { 4096 ≤ result }
+    {
+        asked_with(self.islands.memory())
+    }
+
+    /// Makes room for four times as many octets where a read brought all that it asked for, 65,536 at most, so that the next
+    /// one asks for as many. Where there is no memory for them, it asks for no more than this one.
+    pub(crate) fn grow_after(&mut self, intake: Intake, asked: usize)
+        ensures arrived { self.new.arrived ≡ self.old.arrived }
+        ensures early { self.new.early ≡ self.old.early }
+        ensures same { IsSameStart self.old self.new }
+    {
+        if intake == Intake::Came(asked) && asked < MOST_READ {
+            let _ = self.islands.make_room(asked.saturating_mul(GROWTH));
+        }
     }
 
     /// One read of at most `most` octets, 1 if that is 0, at most 65,536, and no more than the window has room for, to where

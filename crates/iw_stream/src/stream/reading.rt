@@ -31,13 +31,19 @@ impl<A: Allocator> Stream<A> {
     /// window has room for. It is one delivery ([`Stream::deliver`]) of what was read, past the last octet that came, and
     /// none of it is dropped, unless the stream has ended: such a stream still reads, and drops.
     ///
+    /// The first read asks for 4,096 octets, and one behind a read that brought all that it asked for, for four times as
+    /// many. So a connection that brings little keeps little memory.
+    ///
     /// An `Err` is that of the reader, also for a read that would block or was interrupted, or one of the kind
     /// `OutOfMemory`. Nothing was read then, and nothing changed.
     pub fn read_from<R: Read>(&mut self, from: &mut R) -> io::Result<Intake>
         ensures ok { IfOk result (λ intake. IsRead self.old self.new (R.remaining from.old) (R.remaining from.new) intake) }
         ensures err { OnErr result ((self.new ≡ self.old) × Keeps (R.remaining from.old) (R.remaining from.new)) }
     {
-        self.read_some(from, MOST_READ)
+        if self.ending.has_ended() {
+            return self.read_ended(from, MOST_READ);
+        }
+        self.read_growing(from)
     }
 
     /// As [`Stream::read_from`], but at most `most` octets are read, 1 if `most` is 0, and memory is taken for that many
@@ -53,7 +59,26 @@ impl<A: Allocator> Stream<A> {
         self.read_running(from, most)
     }
 
-    // The same of a stream that has ended.
+    // The same of a stream that runs.
+    fn read_growing<R: Read>(&mut self, from: &mut R) -> io::Result<Intake>
+        requires { ended self.old ≡ false }
+        ensures ok { IfOk result (λ intake. IsRead self.old self.new (R.remaining from.old) (R.remaining from.new) intake) }
+        ensures err { OnErr result ((self.new ≡ self.old) × Keeps (R.remaining from.old) (R.remaining from.new)) }
+    {
+        let asked = self.arrived.asked_next();
+        let intake = self.read_running(from, asked)?;
+        self.grow_after(intake, asked);
+        Ok(intake)
+    }
+
+    // Makes room for a larger read where one brought all that it asked for.
+    fn grow_after(&mut self, intake: Intake, asked: usize)
+        ensures { self.new ≡ self.old }
+    {
+        self.arrived.grow_after(intake, asked);
+    }
+
+    // One read of at most `most` octets at a stream that has ended.
     fn read_ended<R: Read>(&mut self, from: &mut R, most: usize) -> io::Result<Intake>
         requires { ended self.old ≡ true }
         ensures few { IfOk result (λ intake. octets_read intake ≤ max most 1) }
