@@ -143,7 +143,7 @@ impl<T, A: Allocator> Judged<T, A> {
     }
 
     /// Whether a frame whose span begins before `place` ends past it.
-    #[inline(always)]
+    #[inline]
     pub fn reaches_over(&self, place: u64) -> bool
         ensures { MatchBool result ((r : Record T) × Contains self.now.records r × (from_of r < place) × (place < r.end))
             ((r : Record T) → Contains self.now.records r → from_of r < place → r.end ≤ place) }

@@ -275,7 +275,7 @@ fn give_back<A: Allocator>(octets: &mut Vec<u8, A>)
 
 /// Lets the buffer, which begins at place `base`, begin at place `to` where nothing came past it. What stands in it
 /// stays there, and means nothing.
-#[inline(always)]
+#[inline]
 pub(crate) fn let_go<A: Allocator>(octets: &mut Vec<u8, A>, base: &mut u64, end: u64, to: u64)
     requires low { base.old ≤ to }
     requires high { to ≤ end }

@@ -165,7 +165,7 @@ pub(crate) fn join<A: Allocator>(spans: &mut VecDeque<Span, A>, low: usize, from
 }
 
 /// Drops the spans that end at `to` or before it.
-#[inline(always)]
+#[inline]
 pub(crate) fn forget<A: Allocator>(gone: &mut VecDeque<Span, A>, to: u64)
     ensures items { gone.new.items ≡ spans_past to gone.old.items }
     ensures capacity { deque_capacity gone.new ≡ deque_capacity gone.old }
