@@ -5,7 +5,7 @@ use Rattle.std.specs.Option.{option_map}
 use Rattle.std.proofs.lemmas.Bool.Decides.{eqb_tells}
 use Rattle.iw_stream.specs.Stream.{StreamState}
 use Rattle.iw_endpoint.specs.Endpoint.{EndpointState, fresh, no_streams, no_closed, stream_of, closed_at}
-use Rattle.iw_endpoint.specs.Isolation.{Call, AddDomain, Register, RegisterDrawn, Deregister, Invalidate, Store, Facts, Local, LocalMut, Open, Share, PostShared, TakeShared, OpenShared, OpenNext, OpenSharedNext, AtStream, HasDomains, IsOwn, IsOwnNumber, Concerns, Opens, OwnStep, OpensOwn, DomainsAreAlone, part_of, answer, after, owner, concerned, only, view, after_all, own_answer, own_answers, own_after_all}
+use Rattle.iw_endpoint.specs.Isolation.{Call, AddDomain, Register, RegisterDrawn, RegisterOctets, RegisterOctetsDrawn, Deregister, DeregisterKept, TakeRegion, Invalidate, Store, Facts, Local, LocalMut, Open, Share, PostShared, TakeShared, OpenShared, OpenNext, OpenSharedNext, AtStream, HasDomains, IsOwn, IsOwnNumber, Concerns, Opens, OwnStep, OpensOwn, DomainsAreAlone, part_of, answer, after, owner, concerned, only, view, after_all, own_answer, own_answers, own_after_all}
 use Rattle.iw_endpoint.proofs.Parts.{fresh_domains}
 use Rattle.iw_endpoint.proofs.Steps.{concerns_one}
 
@@ -22,7 +22,11 @@ pub concerns : (whose : ℕ → ℕ) (e : EndpointState) (call : Call) → AreOw
 concerns whose e (AddDomain pd) owned opens = refl
 concerns whose e (Register pd base octets rights) owned opens = refl
 concerns whose e (RegisterDrawn pd base octets rights drawn) owned opens = refl
+concerns whose e (RegisterOctets pd base octets kept rights) owned opens = refl
+concerns whose e (RegisterOctetsDrawn pd base octets kept rights drawn) owned opens = refl
 concerns whose e (Deregister stag) owned opens = refl
+concerns whose e (DeregisterKept stag) owned opens = refl
+concerns whose e (TakeRegion stag) owned opens = refl
 concerns whose e (Invalidate stag) owned opens = refl
 concerns whose e (Store stag to octets) owned opens = refl
 concerns whose e (Facts stag) owned opens = refl

@@ -4,6 +4,7 @@ pub mod Filled
 pub mod Opened
 pub mod Tables
 pub mod Parts
+mod Forms
 pub mod Steps
 pub mod Alone
 pub mod TakenIn

@@ -4,10 +4,11 @@ use Rattle.std.specs.Prelude.{is_some, is_none, nat_le, if◌then◌else◌}
 use Rattle.std.specs.Option.{option_map, option_or}
 use Rattle.std.proofs.lemmas.Option.{none-some}
 use Rattle.iw_octets.specs.declared.stag.Stag.{Stag}
+use Rattle.iw_memory.specs.declared.refusal.DeregisterRefusal.{DeregisterRefusal}
 use Rattle.iw_memory.specs.declared.refusal.DomainRefusal.TheVariants.{BadDomain, DomainTaken}
 use Rattle.iw_memory.specs.Part.{own_region, own_added}
 use Rattle.iw_memory.specs.Region.{Region, new_region, made_invalid}
-use Rattle.iw_memory.specs.Table.{part_of, region_at, is_added, register_refusal, next_stag, drawn_stag}
+use Rattle.iw_memory.specs.Table.{part_of, region_at, is_added, register_refusal, next_stag, drawn_stag, registered, registered_drawn}
 use Rattle.iw_memory.specs.TableLending.{overwritten}
 use Rattle.iw_memory.proofs.TableLemmas.{slots_are}
 use Rattle.iw_memory.proofs.LawLemmas.{put-changes, with_region-changes, deregistered-changes}
@@ -16,12 +17,13 @@ use Rattle.iw_stream.specs.declared.answer.OpenRefusal.TheVariants.{NumberTaken,
 use Rattle.iw_stream.specs.declared.answer.Role.{Role}
 use Rattle.iw_stream.specs.Starting.{exceeds_request}
 use Rattle.iw_endpoint.specs.declared.refusal.OpenNextRefusal.TheVariants as next_refusals
-use Rattle.iw_endpoint.specs.Endpoint.{EndpointState, with_table, stream_numbers, is_taken, domain_refusal, added, registered, store_refusal, stored, rewritten, pool_of, share_fault, share_refusal, shared, pool_fault, pool_refusal, pooled, take_fault, take_refusal, taken_at, after_take, number_refusal, request_refusal, open_refusal, opened, open_shared_refusal_of, unshared, open_shared_refusal, opened_shared, next_refusal, opened_next, next_shared_refusal, opened_shared_next}
-use Rattle.iw_endpoint.specs.Drawing.{registered_drawn}
-use Rattle.iw_endpoint.specs.Isolation.{Call, Answer, AddDomain, Register, RegisterDrawn, Deregister, Invalidate, Store, Facts, Local, LocalMut, Open, Share, PostShared, TakeShared, OpenShared, OpenNext, OpenSharedNext, AtStream, answer, after, after_all, answer_or, unless}
+use Rattle.iw_endpoint.specs.Endpoint.{EndpointState, with_table, stream_numbers, is_taken, domain_refusal, added, deregistered, store_refusal, stored, rewritten, pool_of, share_fault, share_refusal, shared, pool_fault, pool_refusal, pooled, take_fault, take_refusal, taken_at, after_take, number_refusal, request_refusal, open_refusal, opened, open_shared_refusal_of, unshared, open_shared_refusal, opened_shared, next_refusal, opened_next, next_shared_refusal, opened_shared_next}
+use Rattle.iw_endpoint.specs.Keeping.{region_in}
+use Rattle.iw_endpoint.specs.Isolation.{Call, Answer, AddDomain, Register, RegisterDrawn, RegisterOctets, RegisterOctetsDrawn, Deregister, DeregisterKept, TakeRegion, Invalidate, Store, Facts, Local, LocalMut, Open, Share, PostShared, TakeShared, OpenShared, OpenNext, OpenSharedNext, AtStream, answer, after, after_all, answer_or, unless}
 use Rattle.iw_endpoint.specs.Isolation.{Added, Registered, Octets, Invalidated, Found, Stored, Opened, Shared, Pooled, Taken, OpenedShared, OpenedNext, OfStream}
 use Rattle.iw_endpoint.specs.Limited.{KnowNumbers, PassesBy, Spares, answers, LimitedRegionsStayApart}
 use Rattle.iw_endpoint.proofs.Drawn.{drawn_keeps}
+use Rattle.iw_endpoint.proofs.Forms.{own_fault, kept_fault, handed_back, taken_out}
 use Rattle.iw_endpoint.proofs.Rewritten.{with_octets, over_added, over_facts, over_store, over_register, over_stag, over_drawn, registered_keeps, put_passes, rewritten_passes, invalidated_passes, deregistered_passes, registered_passes, drawn_passes, added_passes}
 use Rattle.iw_endpoint.proofs.Limited.{limited_apart, know_step}
 
@@ -84,26 +86,48 @@ module _ (e : EndpointState) (stag : Stag) (r : Region) (found : region_at e.tab
       go true none = none-some _ (sym none)
       go false none = none-some _ (sym none)
 
+  -- a region is registered in any domain, under its next STag, or under one that is drawn
+  registers : (pd base : ℕ) (new : List ℕ) (region : Region)
+      → PassesBy (λ x. Registered (answer_or (register_refusal x.table pd base (length new)) (next_stag x.table pd))) (λ x. unless (register_refusal x.table pd base (length new)) x (with_table x (registered x.table pd region))) e stag
+  registers pd base new region =
+      passes_unless (λ x. register_refusal x.table pd base (length new)) (λ x. Registered (answer_or (register_refusal x.table pd base (length new)) (next_stag x.table pd))) (λ x. with_table x (registered x.table pd region))
+      (λ octets. over_register e.table stag r found octets pd base (length new))
+      (λ octets. (λ i. Registered (answer_or (over_register e.table stag r found octets pd base (length new) i) (over_stag e.table stag r found octets pd i))))
+      (λ none. registered_keeps e.table pd region stag r found)
+      (λ octets none. ap (with_table e) (registered_passes e.table stag r found octets pd region))
+
+  draws : (pd base : ℕ) (new : List ℕ) (region : Region) (drawn : ℕ)
+      → PassesBy (λ x. Registered (answer_or (register_refusal x.table pd base (length new)) (drawn_stag x.table pd drawn))) (λ x. unless (register_refusal x.table pd base (length new)) x (with_table x (registered_drawn x.table pd drawn region))) e stag
+  draws pd base new region drawn =
+      passes_unless (λ x. register_refusal x.table pd base (length new)) (λ x. Registered (answer_or (register_refusal x.table pd base (length new)) (drawn_stag x.table pd drawn))) (λ x. with_table x (registered_drawn x.table pd drawn region))
+      (λ octets. over_register e.table stag r found octets pd base (length new))
+      (λ octets. (λ i. Registered (answer_or (over_register e.table stag r found octets pd base (length new) i) (over_drawn e.table stag r found octets pd drawn i))))
+      (λ none. drawn_keeps e.table pd drawn region stag r found)
+      (λ octets none. ap (with_table e) (drawn_passes e.table stag r found octets pd drawn region))
+
+  -- another region is handed back, unless this refuses it
+  hands_back : (fault : Option Region → Option DeregisterRefusal) (other : Stag) → other ≢ stag
+      → PassesBy (λ x. handed_back fault (region_at x.table other)) (λ x. unless (fault (region_at x.table other)) x (deregistered x other)) e stag
+  hands_back fault other ne =
+      passes_unless (λ x. fault (region_at x.table other)) (λ x. handed_back fault (region_at x.table other)) (λ x. deregistered x other)
+      (λ octets. ap fault (others_stay other ne octets)) (λ octets. ap (handed_back fault) (others_stay other ne octets))
+      (λ none. (deregistered-changes e.table other).others stag (λ same. ne (sym same)))
+      (λ octets none. ap (with_table e) (deregistered_passes e.table stag r found octets other ne))
+
   pub passes : (n : ℕ) (call : Call) → KnowNumbers e → r.bound ≡ Some n → Spares n stag call → PassesBy (λ x. answer x call) (λ x. after x call) e stag
   passes n (AddDomain pd) know limited spares =
       passes_unless (λ x. domain_refusal x pd) (λ x. Added (domain_refusal x pd)) (λ x. added x pd) (added_alike pd) (λ octets. ap Added (added_alike pd octets))
       (λ none. ap (λ part. own_region part stag) (get_or-set_other e.table pd stag.domain own_added None (λ same. not_added pd none (sym same))))
       (λ octets none. ap (with_table e) (added_passes e.table stag r found octets pd (not_added pd none)))
-  passes n (Register pd base new rights) know limited spares =
-      passes_unless (λ x. register_refusal x.table pd base (length new)) (λ x. Registered (answer_or (register_refusal x.table pd base (length new)) (next_stag x.table pd))) (λ x. registered x pd base new rights)
-      (λ octets. over_register e.table stag r found octets pd base (length new))
-      (λ octets. (λ i. Registered (answer_or (over_register e.table stag r found octets pd base (length new) i) (over_stag e.table stag r found octets pd i))))
-      (λ none. registered_keeps e.table pd (new_region base new rights) stag r found)
-      (λ octets none. ap (with_table e) (registered_passes e.table stag r found octets pd (new_region base new rights)))
-  passes n (RegisterDrawn pd base new rights drawn) know limited spares =
-      passes_unless (λ x. register_refusal x.table pd base (length new)) (λ x. Registered (answer_or (register_refusal x.table pd base (length new)) (drawn_stag x.table pd drawn))) (λ x. registered_drawn x pd base new rights drawn)
-      (λ octets. over_register e.table stag r found octets pd base (length new))
-      (λ octets. (λ i. Registered (answer_or (over_register e.table stag r found octets pd base (length new) i) (over_drawn e.table stag r found octets pd drawn i))))
-      (λ none. drawn_keeps e.table pd drawn (new_region base new rights) stag r found)
-      (λ octets none. ap (with_table e) (drawn_passes e.table stag r found octets pd drawn (new_region base new rights)))
-  passes n (Deregister other) know limited ne = record {
+  passes n (Register pd base new rights) know limited spares = registers pd base new (new_region base new rights)
+  passes n (RegisterDrawn pd base new rights drawn) know limited spares = draws pd base new (new_region base new rights) drawn
+  passes n (RegisterOctets pd base new kept rights) know limited spares = registers pd base new (region_in base new kept rights None)
+  passes n (RegisterOctetsDrawn pd base new kept rights drawn) know limited spares = draws pd base new (region_in base new kept rights None) drawn
+  passes n (Deregister other) know limited ne = hands_back own_fault other ne
+  passes n (DeregisterKept other) know limited ne = hands_back kept_fault other ne
+  passes n (TakeRegion other) know limited ne = record {
     kept = (deregistered-changes e.table other).others stag (λ same. ne (sym same));
-    unseen = λ octets. ap (λ o. Octets (option_map (λ q. q.octets) o)) (others_stay other ne octets);
+    unseen = λ octets. ap taken_out (others_stay other ne octets);
     alike = λ octets. ap (with_table e) (deregistered_passes e.table stag r found octets other ne);
   }
   passes n (Invalidate other) know limited ne = record {

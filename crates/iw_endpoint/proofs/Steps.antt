@@ -8,6 +8,7 @@ use Rattle.std.proofs.lemmas.List.{length-set}
 use Rattle.iw_octets.specs.declared.stag.Stag.{Stag}
 use Rattle.iw_memory.specs.declared.refusal.NoRegion.{NoRegion}
 use Rattle.iw_memory.specs.declared.refusal.RegisterRefusal.{RegisterRefusal}
+use Rattle.iw_memory.specs.Forms.{own_refusal, kept_refusal}
 use Rattle.iw_memory.specs.Part as regions
 use Rattle.iw_memory.specs.Region.{facts_of, new_region, bound_region, overlay}
 use Rattle.iw_memory.specs.Table as tables
@@ -31,12 +32,14 @@ use Rattle.iw_endpoint.specs.declared.refusal.LimitRefusal.TheVariants as limits
 use Rattle.iw_endpoint.specs.declared.refusal.OpenNextRefusal.TheVariants as next_refusals
 use Rattle.iw_endpoint.specs.Numbers.{put_at}
 use Rattle.iw_endpoint.specs.Endpoint.{EndpointState, Pool, new_stream, new_shared, HasNumbers, closed_at, is_taken, rest_refusal, with_next, next_refusal, next_shared_refusal, pool_of, with_pool, share_fault, share_refusal, pool_fault, pool_refusal, take_fault, take_refusal, taken, lent_to, left_of, pool_left, with_worked, stream_of, stream_at, unopened, with_stream, with_table, answer_at, refusal_at, limit_refusal, number_refusal, request_refusal, open_refusal, open_shared_refusal, open_shared_refusal_of, unshared, stream_numbers}
+use Rattle.iw_endpoint.specs.Keeping.{region_in}
 use Rattle.iw_endpoint.specs.Sharing.{emptied, with_worked_alone}
-use Rattle.iw_endpoint.specs.Isolation.{StreamCall, Accept, Reject, Post, PostRecv, Deliver, Work, WorkWithin, Emit, BreakLink, Close, OpenNext, OpenSharedNext, SetMulpdu, Private, Told, PeerOptions, Standing, HasDue, Sent, DueLen, InOrderPoint, BoundBuffers, Limits, RegisterFor, RegisterDrawnFor, AddDomain, Register, RegisterDrawn, Deregister, Invalidate, Store, Facts, Local, LocalMut, Open, Share, PostShared, TakeShared, OpenShared, AtStream, FirstNumber, PeerFirst}
+use Rattle.iw_endpoint.specs.Isolation.{StreamCall, Accept, Reject, Post, PostRecv, Deliver, Work, WorkWithin, Emit, BreakLink, Close, OpenNext, OpenSharedNext, SetMulpdu, Private, Told, PeerOptions, Standing, HasDue, Sent, DueLen, InOrderPoint, BoundBuffers, Limits, RegisterFor, RegisterDrawnFor, RegisterOctetsFor, RegisterOctetsDrawnFor, AddDomain, Register, RegisterDrawn, RegisterOctets, RegisterOctetsDrawn, Deregister, DeregisterKept, TakeRegion, Invalidate, Store, Facts, Local, LocalMut, Open, Share, PostShared, TakeShared, OpenShared, AtStream, FirstNumber, PeerFirst}
 use Rattle.iw_endpoint.specs.Isolation.{StreamAnswer, Bound, Accepted, Rejected, Posted, Buffered, Delivered, Worked, Emitted, Broke, Closed, Sized, Shown, Declared, Wanted, Stood, Due, Counted, Limited, Added, Registered, Octets, Invalidated, Found, Stored, Opened, Shared, Pooled, Taken, OpenedShared, OpenedNext, OfStream, Numbered}
 use Rattle.iw_endpoint.specs.Isolation.{HasDomains, IsOwn, IsOwnNumber, OwnStep, CallsConcernOneDomain, part_of, alone, stream_answer, after_stream, answer_or, unless}
 use Rattle.iw_endpoint.proofs.Tables.{AreAlike, KeepsOthers, step-alike, worked-alike, alike-own, table_worked-alike, keeps-step, keeps-others, emission-alike, emitted-alike, after_emit-alike, worked_domain, emit_domain}
 use Rattle.iw_endpoint.proofs.Filled.{set_is, put_is, within}
+use Rattle.iw_endpoint.proofs.Forms.{own_fault, kept_fault, handed_back, taken_out}
 use Rattle.iw_endpoint.proofs.Parts.{AreSeenAlike, seen_alone, stream_alike, alone_own, with_alike, with_tables_alike, with_pool_alike, pool_alike, pool_other, pool_leaves, unless_alike, refusing_alike, changing_alike, region_alike, Leaves, leaves-all, leaves-put, leaves-closed, leaves-changed, changed_alike, put_alike, closes_alike, closed_alike, alone_number, with_streams, refusing_leaves, changing_leaves, region_leaves, one_step}
 
 -- ---- calls at a stream
@@ -162,6 +165,8 @@ stream_answers d e f n BreakLink own same h = ap (λ o. Broke (answer_at o (λ s
 stream_answers d e f n Close own same h = ap (λ o. Closed (refusal_at o rest_refusal)) same
 stream_answers d e f n (RegisterFor base octets rights) own same h = bound_answers regions.own_next_stag base (length octets) d e f n own same h
 stream_answers d e f n (RegisterDrawnFor base octets rights drawn) own same h = bound_answers (λ part pd. regions.own_drawn_stag part pd drawn) base (length octets) d e f n own same h
+stream_answers d e f n (RegisterOctetsFor base octets kept rights) own same h = bound_answers regions.own_next_stag base (length octets) d e f n own same h
+stream_answers d e f n (RegisterOctetsDrawnFor base octets kept rights drawn) own same h = bound_answers (λ part pd. regions.own_drawn_stag part pd drawn) base (length octets) d e f n own same h
 stream_answers d e f n (SetMulpdu size) own same h = ap (λ o. Sized (refusal_at o (λ s. stream.size_refusal size))) same
 stream_answers d e f n Private own same h = ap (λ o. Shown (answer_at o (λ s. private_in (unwrap_or o unopened).start))) same
 stream_answers d e f n Told own same h = ap (λ o. Declared (answer_at o (λ s. told_in (unwrap_or o unopened).start))) same
@@ -238,6 +243,10 @@ stream_alikes d e f n Close own same h = refusing_alike rest_refusal (λ s e. cl
 stream_alikes d e f n (RegisterFor base octets rights) own same h = bound_alikes base (length octets) (λ pd part. regions.own_registered part (bound_region n base octets rights)) d e f n own same h
 stream_alikes d e f n (RegisterDrawnFor base octets rights drawn) own same h =
     bound_alikes base (length octets) (λ pd part. regions.own_registered_at part (regions.own_drawn_stag part pd drawn) (bound_region n base octets rights)) d e f n own same h
+stream_alikes d e f n (RegisterOctetsFor base octets kept rights) own same h =
+    bound_alikes base (length octets) (λ pd part. regions.own_registered part (region_in base octets kept rights (Some n))) d e f n own same h
+stream_alikes d e f n (RegisterOctetsDrawnFor base octets kept rights drawn) own same h =
+    bound_alikes base (length octets) (λ pd part. regions.own_registered_at part (regions.own_drawn_stag part pd drawn) (region_in base octets kept rights (Some n))) d e f n own same h
 stream_alikes d e f n (SetMulpdu size) own same h =
     refusing_alike (λ s. stream.size_refusal size) (λ s e. with_stream e n (stream.with_mulpdu s size)) d e f n same h (λ s at_e at_f. changed_alike d e f n s (stream.with_mulpdu s size) (stream.with_mulpdu s size) at_e at_f refl h)
 stream_alikes d e f n Private own same h = h
@@ -348,6 +357,9 @@ stream_leaves d e n Close IsNew own = refusing_leaves rest_refusal (closes e n) 
 stream_leaves d e n (RegisterFor base octets rights) IsNew own = bound_leaves base (length octets) (λ pd part. regions.own_registered part (bound_region n base octets rights)) d e n IsNew own.0
 stream_leaves d e n (RegisterDrawnFor base octets rights drawn) IsNew own =
     bound_leaves base (length octets) (λ pd part. regions.own_registered_at part (regions.own_drawn_stag part pd drawn) (bound_region n base octets rights)) d e n IsNew own.0
+stream_leaves d e n (RegisterOctetsFor base octets kept rights) IsNew own = bound_leaves base (length octets) (λ pd part. regions.own_registered part (region_in base octets kept rights (Some n))) d e n IsNew own.0
+stream_leaves d e n (RegisterOctetsDrawnFor base octets kept rights drawn) IsNew own =
+    bound_leaves base (length octets) (λ pd part. regions.own_registered_at part (regions.own_drawn_stag part pd drawn) (region_in base octets kept rights (Some n))) d e n IsNew own.0
 stream_leaves d e n Private IsNew own = leaves-all d e IsNew
 stream_leaves d e n Told IsNew own = leaves-all d e IsNew
 stream_leaves d e n PeerOptions IsNew own = leaves-all d e IsNew
@@ -488,9 +500,29 @@ concerns_one d e (RegisterDrawn pd base octets rights drawn) all here = subst (�
     one_step pd e (RegisterDrawn pd base octets rights drawn) all (ap (λ part. Registered (answer_or (regions.own_register_refusal part base (length octets)) (regions.own_drawn_stag part pd drawn))) h.table.part)
     (region_alike (λ part. regions.own_register_refusal part base (length octets)) (λ part. regions.own_registered_at part (regions.own_drawn_stag part pd drawn) (new_region base octets rights)) pd e f h)
     (region_leaves (tables.register_refusal e.table pd base (length octets)) pd e _ _))
+concerns_one d e (RegisterOctets pd base octets kept rights) all here = subst (λ x. OwnStep x e (RegisterOctets pd base octets kept rights)) here
+    (let h = seen_alone pd e all in let f = alone pd (part_of pd e) in
+    one_step pd e (RegisterOctets pd base octets kept rights) all (ap (λ part. Registered (answer_or (regions.own_register_refusal part base (length octets)) (regions.own_next_stag part pd))) h.table.part)
+    (region_alike (λ part. regions.own_register_refusal part base (length octets)) (λ part. regions.own_registered part (region_in base octets kept rights None)) pd e f h)
+    (region_leaves (tables.register_refusal e.table pd base (length octets)) pd e _ _))
+concerns_one d e (RegisterOctetsDrawn pd base octets kept rights drawn) all here = subst (λ x. OwnStep x e (RegisterOctetsDrawn pd base octets kept rights drawn)) here
+    (let h = seen_alone pd e all in let f = alone pd (part_of pd e) in
+    one_step pd e (RegisterOctetsDrawn pd base octets kept rights drawn) all (ap (λ part. Registered (answer_or (regions.own_register_refusal part base (length octets)) (regions.own_drawn_stag part pd drawn))) h.table.part)
+    (region_alike (λ part. regions.own_register_refusal part base (length octets)) (λ part. regions.own_registered_at part (regions.own_drawn_stag part pd drawn) (region_in base octets kept rights None)) pd e f h)
+    (region_leaves (tables.register_refusal e.table pd base (length octets)) pd e _ _))
 concerns_one d e (Deregister stag) all here = subst (λ x. OwnStep x e (Deregister stag)) here
     (let h = seen_alone stag.domain e all in let f = alone stag.domain (part_of stag.domain e) in
-    one_step stag.domain e (Deregister stag) all (ap (λ part. Octets (option_map (λ r. r.octets) (regions.own_region part stag))) h.table.part)
+    one_step stag.domain e (Deregister stag) all (ap (λ part. handed_back own_fault (regions.own_region part stag)) h.table.part)
+    (region_alike (λ part. own_fault (regions.own_region part stag)) (λ part. regions.own_deregistered part stag) stag.domain e f h)
+    (region_leaves (own_refusal e.table stag) stag.domain e _ _))
+concerns_one d e (DeregisterKept stag) all here = subst (λ x. OwnStep x e (DeregisterKept stag)) here
+    (let h = seen_alone stag.domain e all in let f = alone stag.domain (part_of stag.domain e) in
+    one_step stag.domain e (DeregisterKept stag) all (ap (λ part. handed_back kept_fault (regions.own_region part stag)) h.table.part)
+    (region_alike (λ part. kept_fault (regions.own_region part stag)) (λ part. regions.own_deregistered part stag) stag.domain e f h)
+    (region_leaves (kept_refusal e.table stag) stag.domain e _ _))
+concerns_one d e (TakeRegion stag) all here = subst (λ x. OwnStep x e (TakeRegion stag)) here
+    (let h = seen_alone stag.domain e all in let f = alone stag.domain (part_of stag.domain e) in
+    one_step stag.domain e (TakeRegion stag) all (ap (λ part. taken_out (regions.own_region part stag)) h.table.part)
     (region_alike {R = NoRegion} (λ part. None) (λ part. regions.own_deregistered part stag) stag.domain e f h)
     (region_leaves {R = NoRegion} None stag.domain e _ _))
 concerns_one d e (Invalidate stag) all here = subst (λ x. OwnStep x e (Invalidate stag)) here

@@ -6,6 +6,7 @@ use Rattle.std.proofs.Math.Seq.{take-length}
 use Rattle.std.proofs.lemmas.Bool.Decides.{eqb_tells}
 use Rattle.iw_octets.specs.declared.stag.Stag.{Stag}
 use Rattle.iw_memory.specs.declared.peer.Peer.{Peer}
+use Rattle.iw_memory.specs.declared.refusal.DeregisterRefusal.{DeregisterRefusal}
 use Rattle.iw_memory.specs.declared.refusal.StoreRefusal.{StoreRefusal}
 use Rattle.iw_memory.specs.Part.{own_region}
 use Rattle.iw_memory.specs.Region.{Region, is_bound_to, made_invalid, retired_region, region_with, overlay}
@@ -16,12 +17,13 @@ use Rattle.iw_memory.proofs.ScopeLemmas.{retires}
 use Rattle.iw_memory.proofs.TableLemmas.{with_region-found, with_region-none, with_slot-same}
 use Rattle.iw_stream.specs.Stream.{StreamState, peer_of}
 use Rattle.iw_stream.specs.Work.{table_worked}
-use Rattle.iw_endpoint.specs.Endpoint.{EndpointState, with_table, pool_of, lent_to, store_refusal, stored, rewritten}
+use Rattle.iw_endpoint.specs.Endpoint.{EndpointState, with_table, pool_of, lent_to, deregistered, store_refusal, stored, rewritten}
 use Rattle.iw_endpoint.specs.Sharing.{emptied}
-use Rattle.iw_endpoint.specs.Isolation.{StreamCall, Call, Answer, Deregister, Invalidate, Store, Local, LocalMut, AtStream, Invalidated, Stored, OfStream, stream_answer, after_stream, answer, after, unless}
+use Rattle.iw_endpoint.specs.Isolation.{StreamCall, Call, Answer, Deregister, DeregisterKept, TakeRegion, Invalidate, Store, Local, LocalMut, AtStream, Invalidated, Stored, OfStream, stream_answer, after_stream, answer, after, unless}
 use Rattle.iw_endpoint.specs.Limited.{KnowNumbers, Spares, Hides, DifferIn, AreHidden, LimitedRegionsAreHidden, answers}
 use Rattle.iw_endpoint.proofs.Calls.{told_alike, left_alike, worked_over, alone_over}
 use Rattle.iw_endpoint.proofs.Drawn.{drawn_keeps}
+use Rattle.iw_endpoint.proofs.Forms.{own_fault, kept_fault}
 use Rattle.iw_endpoint.proofs.Limited.{limited_apart, know_step}
 use Rattle.iw_endpoint.proofs.Rewritten.{with_octets, registered_keeps, put_passes, put_over, invalidated_passes, invalidated_over, rewritten_over, deregistered_over, over_denies, over_store}
 use Rattle.iw_endpoint.proofs.Spared.{passes}
@@ -152,8 +154,29 @@ module _ (e : EndpointState) (n : ℕ) (stag : Stag) (r : Region) (found : regio
   same_region : region_at t stag ≡ Some (with_octets octets r)
   same_region = (with_region-changes e.table stag (with_octets octets)).changed ∙ ap (option_map (with_octets octets)) found
 
+  -- it is handed back, unless it is in the other form: of this its octets tell nothing
+  gone : Related n stag (deregistered e stag) (deregistered f stag)
+  gone = inl (ap (with_table e) (deregistered_over e.table stag r found octets))
+
+  handed : (fault : Option Region → Option DeregisterRefusal) → fault (Some (with_octets octets r)) ≡ fault (Some r)
+      → Related n stag (unless (fault (region_at e.table stag)) e (deregistered e stag)) (unless (fault (region_at t stag)) f (deregistered f stag))
+  handed fault same = subst (λ q. Related n stag (unless (fault (region_at e.table stag)) e (deregistered e stag)) (unless q f (deregistered f stag))) (sym alike) (go (fault (region_at e.table stag)))
+    where
+      alike : fault (region_at t stag) ≡ fault (region_at e.table stag)
+      alike = ap fault same_region ∙ same ∙ sym (ap fault found)
+
+      go : (q : Option DeregisterRefusal) → Related n stag (unless q e (deregistered e stag)) (unless q f (deregistered f stag))
+      go None = gone
+      go (Some x) = inr (bound, record { octets = octets; same = refl })
+
   deregisters : Step n stag e f (Deregister stag)
-  deregisters = record { told = λ hides. absurd (hides refl); left = inl (ap (with_table e) (deregistered_over e.table stag r found octets)) }
+  deregisters = record { told = λ hides. absurd (hides refl); left = handed own_fault refl }
+
+  deregisters_kept : Step n stag e f (DeregisterKept stag)
+  deregisters_kept = record { told = λ hides. absurd (hides refl); left = handed kept_fault refl }
+
+  takes : Step n stag e f (TakeRegion stag)
+  takes = record { told = λ hides. absurd (hides refl); left = gone }
 
   invalidates : Step n stag e f (Invalidate stag)
   invalidates = record {
@@ -182,6 +205,8 @@ module _ (e : EndpointState) (n : ℕ) (stag : Stag) (r : Region) (found : regio
 
   step : (call : Call) → Step n stag e f call
   step (Deregister other) = elim (stag_cases other stag) [ inr ne ↦ spared (Deregister other) ne | inl same ↦ subst (λ x. Step n stag e f (Deregister x)) (sym same) deregisters ]
+  step (DeregisterKept other) = elim (stag_cases other stag) [ inr ne ↦ spared (DeregisterKept other) ne | inl same ↦ subst (λ x. Step n stag e f (DeregisterKept x)) (sym same) deregisters_kept ]
+  step (TakeRegion other) = elim (stag_cases other stag) [ inr ne ↦ spared (TakeRegion other) ne | inl same ↦ subst (λ x. Step n stag e f (TakeRegion x)) (sym same) takes ]
   step (Invalidate other) = elim (stag_cases other stag) [ inr ne ↦ spared (Invalidate other) ne | inl same ↦ subst (λ x. Step n stag e f (Invalidate x)) (sym same) invalidates ]
   step (Store other to new) = elim (stag_cases other stag) [ inr ne ↦ spared (Store other to new) ne | inl same ↦ subst (λ x. Step n stag e f (Store x to new)) (sym same) (stores to new) ]
   step (Local other) = elim (stag_cases other stag) [ inr ne ↦ spared (Local other) ne | inl same ↦ subst (λ x. Step n stag e f (Local x)) (sym same) shows ]

@@ -1,13 +1,15 @@
 -- One domain's part of an endpoint, and that no call lets a domain see or change another's.
-use Rattle.std.specs.Prelude.{◌≡◌, ◌≢◌, ◌≤◌, ◌⊎◌, ℕ, ◌==◌, List, [], ◌∷◌, length, map, filter, slice_set, if◌then◌else◌, Bool, is_some, Option, Some, None, IfSome, Result, Ok, Err}
+use Rattle.std.specs.Prelude.{◌≡◌, ◌≢◌, ◌≤◌, ◌⊎◌, ℕ, ◌==◌, List, [], ◌∷◌, length, map, filter, slice_set, unwrap_or, if◌then◌else◌, Bool, is_some, Option, Some, None, IfSome, Result, Ok, Err}
 use Rattle.std.specs.Option.{option_map}
 use Rattle.arrayvec.specs.ArrayVec.{ArrayVec}
 use Rattle.iw_octets.specs.declared.stag.Stag.{Stag}
+use Rattle.iw_memory.specs.declared.refusal.DeregisterRefusal.{DeregisterRefusal}
 use Rattle.iw_memory.specs.declared.refusal.DomainRefusal.{DomainRefusal}
 use Rattle.iw_memory.specs.declared.refusal.RegisterRefusal.{RegisterRefusal}
 use Rattle.iw_memory.specs.declared.refusal.StoreRefusal.{StoreRefusal}
 use Rattle.iw_memory.specs.declared.region.Facts as facts
 use Rattle.iw_memory.specs.declared.rights.Rights.{Rights}
+use Rattle.iw_memory.specs.Forms.{own_refusal, kept_refusal}
 use Rattle.iw_memory.specs.Part as slots
 use Rattle.iw_memory.specs.Table as tables
 use Rattle.iw_memory.specs.Table.{empty, with_part, region_at, register_refusal, next_stag, drawn_stag}
@@ -40,6 +42,7 @@ use Rattle.iw_endpoint.specs.declared.refusal.TakeRefusal.{TakeRefusal}
 use Rattle.iw_endpoint.specs.Numbers.{filled, trimmed}
 use Rattle.iw_endpoint.specs.Endpoint.{EndpointState, HasNumbers, Pool, closed_at, next_refusal, next_shared_refusal, opened_next, opened_shared_next, close_refusal, after_close, stream_numbers, domain_numbers, no_pools, fresh, pool_of, share_refusal, shared, pool_refusal, pooled, take_refusal, taken_at, after_take, open_shared_refusal, opened_shared, stream_of, stream_at, limit_refusal, limited, answer_at, domain_refusal, added, registered, octets_of, deregistered, invalidated, facts_at, store_refusal, stored, rewritten, open_refusal, opened, answer_refusal, agreement, accepted, rejected, post_refusal, with_request, recv_refusal, with_buffer, delivery_at, after_deliver, emission_at, emitted_at, after_emit, step_at, after_work, broken, size_refusal, with_mulpdu, private_at, told_at, options_at, standing_at, has_due, sent_at, point_at, first_refusal, with_first, first_at}
 use Rattle.iw_endpoint.specs.Drawing.{registered_drawn, limited_drawn}
+use Rattle.iw_endpoint.specs.Keeping.{registered_form, limited_form, drawn_form, limited_drawn_form}
 use Rattle.iw_endpoint.specs.Sharing.{bound_at, step_within, after_work_within}
 
 -- ---- calls, as values
@@ -59,6 +62,8 @@ pub data StreamCall : Type 0 where
   Close : StreamCall
   RegisterFor : ℕ → List ℕ → Rights → StreamCall
   RegisterDrawnFor : ℕ → List ℕ → Rights → ℕ → StreamCall
+  RegisterOctetsFor : ℕ → List ℕ → Bool → Rights → StreamCall  -- with whether a program keeps the memory of the octets
+  RegisterOctetsDrawnFor : ℕ → List ℕ → Bool → Rights → ℕ → StreamCall
   SetMulpdu : ℕ → StreamCall
   Private : StreamCall
   Told : StreamCall
@@ -76,7 +81,11 @@ pub data Call : Type 0 where
   AddDomain : ℕ → Call
   Register : ℕ → ℕ → List ℕ → Rights → Call
   RegisterDrawn : ℕ → ℕ → List ℕ → Rights → ℕ → Call  -- with the bits that are drawn
+  RegisterOctets : ℕ → ℕ → List ℕ → Bool → Rights → Call  -- with whether a program keeps the memory of the octets
+  RegisterOctetsDrawn : ℕ → ℕ → List ℕ → Bool → Rights → ℕ → Call
   Deregister : Stag → Call
+  DeregisterKept : Stag → Call
+  TakeRegion : Stag → Call
   Invalidate : Stag → Call
   Store : Stag → ℕ → List ℕ → Call
   Facts : Stag → Call
@@ -118,6 +127,8 @@ pub data Answer : Type 0 where
   Added : Option DomainRefusal → Answer
   Registered : Result Stag RegisterRefusal → Answer
   Octets : Option (List ℕ) → Answer  -- the octets of a region; None if there is no region
+  Deregistered : Result (List ℕ) DeregisterRefusal → Answer
+  TookRegion : Option (List ℕ) → Option Bool → Answer  -- its octets, and whether a program keeps their memory; None if there is no region
   Invalidated : Bool → Answer  -- whether there is a region
   Found : Option facts.Facts → Answer
   Stored : Option StoreRefusal → Answer
@@ -157,6 +168,8 @@ stream_answer e n BreakLink = Broke (answer_at (stream_of e n) (λ s. tt))
 stream_answer e n Close = Closed (close_refusal e n)
 stream_answer e n (RegisterFor base octets rights) = Bound (answer_or (limit_refusal e n base (length octets)) (next_stag e.table (stream_at e n).domain))
 stream_answer e n (RegisterDrawnFor base octets rights drawn) = Bound (answer_or (limit_refusal e n base (length octets)) (drawn_stag e.table (stream_at e n).domain drawn))
+stream_answer e n (RegisterOctetsFor base octets kept rights) = Bound (answer_or (limit_refusal e n base (length octets)) (next_stag e.table (stream_at e n).domain))
+stream_answer e n (RegisterOctetsDrawnFor base octets kept rights drawn) = Bound (answer_or (limit_refusal e n base (length octets)) (drawn_stag e.table (stream_at e n).domain drawn))
 stream_answer e n (SetMulpdu size) = Sized (size_refusal e n size)
 stream_answer e n Private = Shown (answer_at (stream_of e n) (λ s. private_at e n))
 stream_answer e n Told = Declared (answer_at (stream_of e n) (λ s. told_at e n))
@@ -174,7 +187,11 @@ abbrev pub answer : EndpointState → Call → Answer
 answer e (AddDomain pd) = Added (domain_refusal e pd)
 answer e (Register pd base octets rights) = Registered (answer_or (register_refusal e.table pd base (length octets)) (next_stag e.table pd))
 answer e (RegisterDrawn pd base octets rights drawn) = Registered (answer_or (register_refusal e.table pd base (length octets)) (drawn_stag e.table pd drawn))
-answer e (Deregister stag) = Octets (octets_of e stag)
+answer e (RegisterOctets pd base octets kept rights) = Registered (answer_or (register_refusal e.table pd base (length octets)) (next_stag e.table pd))
+answer e (RegisterOctetsDrawn pd base octets kept rights drawn) = Registered (answer_or (register_refusal e.table pd base (length octets)) (drawn_stag e.table pd drawn))
+answer e (Deregister stag) = Deregistered (answer_or (own_refusal e.table stag) (unwrap_or (octets_of e stag) []))
+answer e (DeregisterKept stag) = Deregistered (answer_or (kept_refusal e.table stag) (unwrap_or (octets_of e stag) []))
+answer e (TakeRegion stag) = TookRegion (octets_of e stag) (option_map (λ r. r.kept) (region_at e.table stag))
 answer e (Invalidate stag) = Invalidated (is_some (region_at e.table stag))
 answer e (Store stag to octets) = Stored (store_refusal e stag to (length octets))
 answer e (Facts stag) = Found (facts_at e stag)
@@ -205,6 +222,8 @@ after_stream e n BreakLink = if_there (stream_of e n) e (broken e n)
 after_stream e n Close = unless (close_refusal e n) e (after_close e n)
 after_stream e n (RegisterFor base octets rights) = unless (limit_refusal e n base (length octets)) e (limited e n base octets rights)
 after_stream e n (RegisterDrawnFor base octets rights drawn) = unless (limit_refusal e n base (length octets)) e (limited_drawn e n base octets rights drawn)
+after_stream e n (RegisterOctetsFor base octets kept rights) = unless (limit_refusal e n base (length octets)) e (limited_form e n base octets kept rights)
+after_stream e n (RegisterOctetsDrawnFor base octets kept rights drawn) = unless (limit_refusal e n base (length octets)) e (limited_drawn_form e n base octets kept rights drawn)
 after_stream e n (SetMulpdu size) = unless (size_refusal e n size) e (with_mulpdu e n size)
 after_stream e n Private = e
 after_stream e n Told = e
@@ -222,7 +241,11 @@ abbrev pub after : EndpointState → Call → EndpointState
 after e (AddDomain pd) = unless (domain_refusal e pd) e (added e pd)
 after e (Register pd base octets rights) = unless (register_refusal e.table pd base (length octets)) e (registered e pd base octets rights)
 after e (RegisterDrawn pd base octets rights drawn) = unless (register_refusal e.table pd base (length octets)) e (registered_drawn e pd base octets rights drawn)
-after e (Deregister stag) = deregistered e stag
+after e (RegisterOctets pd base octets kept rights) = unless (register_refusal e.table pd base (length octets)) e (registered_form e pd base octets kept rights)
+after e (RegisterOctetsDrawn pd base octets kept rights drawn) = unless (register_refusal e.table pd base (length octets)) e (drawn_form e pd base octets kept rights drawn)
+after e (Deregister stag) = unless (own_refusal e.table stag) e (deregistered e stag)
+after e (DeregisterKept stag) = unless (kept_refusal e.table stag) e (deregistered e stag)
+after e (TakeRegion stag) = deregistered e stag
 after e (Invalidate stag) = invalidated e stag
 after e (Store stag to octets) = unless (store_refusal e stag to (length octets)) e (stored e stag to octets)
 after e (Facts stag) = e
@@ -296,7 +319,11 @@ abbrev pub Concerns : ℕ → EndpointState → Call → Type 0
 Concerns d e (AddDomain pd) = pd ≡ d
 Concerns d e (Register pd base octets rights) = pd ≡ d
 Concerns d e (RegisterDrawn pd base octets rights drawn) = pd ≡ d
+Concerns d e (RegisterOctets pd base octets kept rights) = pd ≡ d
+Concerns d e (RegisterOctetsDrawn pd base octets kept rights drawn) = pd ≡ d
 Concerns d e (Deregister stag) = stag.domain ≡ d
+Concerns d e (DeregisterKept stag) = stag.domain ≡ d
+Concerns d e (TakeRegion stag) = stag.domain ≡ d
 Concerns d e (Invalidate stag) = stag.domain ≡ d
 Concerns d e (Store stag to octets) = stag.domain ≡ d
 Concerns d e (Facts stag) = stag.domain ≡ d
@@ -324,7 +351,11 @@ Opens n d (OpenSharedNext m pd role config) = (m ≡ Some n) × (pd ≡ d)
 Opens n d (AddDomain pd) = ⊥
 Opens n d (Register pd base octets rights) = ⊥
 Opens n d (RegisterDrawn pd base octets rights drawn) = ⊥
+Opens n d (RegisterOctets pd base octets kept rights) = ⊥
+Opens n d (RegisterOctetsDrawn pd base octets kept rights drawn) = ⊥
 Opens n d (Deregister stag) = ⊥
+Opens n d (DeregisterKept stag) = ⊥
+Opens n d (TakeRegion stag) = ⊥
 Opens n d (Invalidate stag) = ⊥
 Opens n d (Store stag to octets) = ⊥
 Opens n d (Facts stag) = ⊥
@@ -361,7 +392,11 @@ abbrev pub concerned : (ℕ → ℕ) → Call → ℕ
 concerned whose (AddDomain pd) = pd
 concerned whose (Register pd base octets rights) = pd
 concerned whose (RegisterDrawn pd base octets rights drawn) = pd
+concerned whose (RegisterOctets pd base octets kept rights) = pd
+concerned whose (RegisterOctetsDrawn pd base octets kept rights drawn) = pd
 concerned whose (Deregister stag) = stag.domain
+concerned whose (DeregisterKept stag) = stag.domain
+concerned whose (TakeRegion stag) = stag.domain
 concerned whose (Invalidate stag) = stag.domain
 concerned whose (Store stag to octets) = stag.domain
 concerned whose (Facts stag) = stag.domain

@@ -1,25 +1,44 @@
 -- Regions of octets that are a vector's, or are in memory that a program keeps.
-use Rattle.std.specs.Prelude.{ℕ, Option, Some, None}
+use Rattle.std.specs.Prelude.{ℕ, List, Bool, Option, Some, None}
 use Rattle.iw_kept.specs.declared.octets.RegionOctets.{RegionOctets}
 use Rattle.iw_memory.specs.declared.rights.Rights.{Rights}
-use Rattle.iw_memory.specs.Forms.{region_of}
+use Rattle.iw_memory.specs.Region.{Region, new_region}
+use Rattle.iw_kept.specs.Octets.{octets_of, is_kept}
 use Rattle.iw_memory.specs.Table as tables
 use Rattle.iw_endpoint.specs.Endpoint.{EndpointState, with_table, stream_at}
 
+-- a region of these octets as it is registered, whose memory a program keeps or not, limited to a stream or not
+abbrev pub region_in : ℕ → List ℕ → Bool → Rights → Option ℕ → Region
+region_in base octets kept rights bound = record (new_region base octets rights) { bound = bound; kept = kept }
+
 -- a new region of the domain with these octets
-abbrev pub registered_octets : {A : Type 0} → EndpointState → ℕ → ℕ → RegionOctets A → Rights → EndpointState
-registered_octets e pd base octets rights = with_table e (tables.registered e.table pd (region_of base octets rights None))
+abbrev pub registered_form : EndpointState → ℕ → ℕ → List ℕ → Bool → Rights → EndpointState
+registered_form e pd base octets kept rights = with_table e (tables.registered e.table pd (region_in base octets kept rights None))
 
 -- the same for the stream of this number alone, in its domain
-abbrev pub limited_octets : {A : Type 0} → EndpointState → ℕ → ℕ → RegionOctets A → Rights → EndpointState
-limited_octets e number base octets rights =
-    with_table e (tables.registered e.table (stream_at e number).domain (region_of base octets rights (Some number)))
+abbrev pub limited_form : EndpointState → ℕ → ℕ → List ℕ → Bool → Rights → EndpointState
+limited_form e number base octets kept rights =
+    with_table e (tables.registered e.table (stream_at e number).domain (region_in base octets kept rights (Some number)))
 
 -- and both under the STag that is drawn
+abbrev pub drawn_form : EndpointState → ℕ → ℕ → List ℕ → Bool → Rights → ℕ → EndpointState
+drawn_form e pd base octets kept rights drawn =
+    with_table e (tables.registered_drawn e.table pd drawn (region_in base octets kept rights None))
+
+abbrev pub limited_drawn_form : EndpointState → ℕ → ℕ → List ℕ → Bool → Rights → ℕ → EndpointState
+limited_drawn_form e number base octets kept rights drawn =
+    with_table e (tables.registered_drawn e.table (stream_at e number).domain drawn (region_in base octets kept rights (Some number)))
+
+-- ---- with the octets as they are handed in
+
+abbrev pub registered_octets : {A : Type 0} → EndpointState → ℕ → ℕ → RegionOctets A → Rights → EndpointState
+registered_octets e pd base octets rights = registered_form e pd base (octets_of octets) (is_kept octets) rights
+
+abbrev pub limited_octets : {A : Type 0} → EndpointState → ℕ → ℕ → RegionOctets A → Rights → EndpointState
+limited_octets e number base octets rights = limited_form e number base (octets_of octets) (is_kept octets) rights
+
 abbrev pub drawn_octets : {A : Type 0} → EndpointState → ℕ → ℕ → RegionOctets A → Rights → ℕ → EndpointState
-drawn_octets e pd base octets rights drawn =
-    with_table e (tables.registered_drawn e.table pd drawn (region_of base octets rights None))
+drawn_octets e pd base octets rights drawn = drawn_form e pd base (octets_of octets) (is_kept octets) rights drawn
 
 abbrev pub limited_drawn_octets : {A : Type 0} → EndpointState → ℕ → ℕ → RegionOctets A → Rights → ℕ → EndpointState
-limited_drawn_octets e number base octets rights drawn =
-    with_table e (tables.registered_drawn e.table (stream_at e number).domain drawn (region_of base octets rights (Some number)))
+limited_drawn_octets e number base octets rights drawn = limited_drawn_form e number base (octets_of octets) (is_kept octets) rights drawn

@@ -5,7 +5,7 @@ use Rattle.iw_octets.specs.declared.stag.Stag.{Stag}
 use Rattle.iw_memory.specs.Region.{Region}
 use Rattle.iw_memory.specs.Table.{region_at}
 use Rattle.iw_endpoint.specs.Endpoint.{EndpointState, fresh, stream_of, rewritten}
-use Rattle.iw_endpoint.specs.Isolation.{StreamCall, Call, Deregister, Invalidate, Store, Local, LocalMut, AtStream, Emit, Answer, stream_answer, after_stream, answer, after, after_all}
+use Rattle.iw_endpoint.specs.Isolation.{StreamCall, Call, Deregister, DeregisterKept, TakeRegion, Invalidate, Store, Local, LocalMut, AtStream, Emit, Answer, stream_answer, after_stream, answer, after, after_all}
 
 -- each stream has the number that it was opened under
 abbrev pub KnowNumbers : EndpointState → Type 0
@@ -45,6 +45,8 @@ pub record IsLimitedTo (e : EndpointState) (n : ℕ) (stag : Stag) : Type 0 wher
 -- the call is not at the stream of number n, and the owner does not read, write, invalidate or take away by it what the STag names
 abbrev pub Spares : ℕ → Stag → Call → Type 0
 Spares n stag (Deregister other) = other ≢ stag
+Spares n stag (DeregisterKept other) = other ≢ stag
+Spares n stag (TakeRegion other) = other ≢ stag
 Spares n stag (Invalidate other) = other ≢ stag
 Spares n stag (Store other to octets) = other ≢ stag
 Spares n stag (Local other) = other ≢ stag
@@ -68,6 +70,8 @@ LimitedRegionsStayApart =
 -- the call is no emission of the stream of number n, and the owner is not shown or handed back by it what the STag names
 abbrev pub Hides : ℕ → Stag → Call → Type 0
 Hides n stag (Deregister other) = other ≢ stag
+Hides n stag (DeregisterKept other) = other ≢ stag
+Hides n stag (TakeRegion other) = other ≢ stag
 Hides n stag (Local other) = other ≢ stag
 Hides n stag (LocalMut other octets) = other ≢ stag
 Hides n stag (AtStream m Emit) = m ≢ n

@@ -1,7 +1,7 @@
 -- No number is used for a second stream.
 use Rattle.std.specs.Prelude.{◌≡◌, ℕ, List, [], ◌∷◌, ◌++◌, true, false}
 use Rattle.iw_endpoint.specs.Endpoint.{EndpointState, fresh, has_stream, next_number}
-use Rattle.iw_endpoint.specs.Isolation.{Call, AddDomain, Register, RegisterDrawn, Deregister, Invalidate, Store, Facts, Local, LocalMut, Open, Share, PostShared, TakeShared, OpenShared, OpenNext, OpenSharedNext, AtStream, after, after_all}
+use Rattle.iw_endpoint.specs.Isolation.{Call, AddDomain, Register, RegisterDrawn, RegisterOctets, RegisterOctetsDrawn, Deregister, DeregisterKept, TakeRegion, Invalidate, Store, Facts, Local, LocalMut, Open, Share, PostShared, TakeShared, OpenShared, OpenNext, OpenSharedNext, AtStream, after, after_all}
 
 -- a call for the next number carries the one that the endpoint gives
 abbrev pub IsGiven : EndpointState → Call → Type 0
@@ -10,7 +10,11 @@ IsGiven e (OpenSharedNext n pd role config) = n ≡ next_number e
 IsGiven e (AddDomain pd) = Unit {0}
 IsGiven e (Register pd base octets rights) = Unit {0}
 IsGiven e (RegisterDrawn pd base octets rights drawn) = Unit {0}
+IsGiven e (RegisterOctets pd base octets kept rights) = Unit {0}
+IsGiven e (RegisterOctetsDrawn pd base octets kept rights drawn) = Unit {0}
 IsGiven e (Deregister stag) = Unit {0}
+IsGiven e (DeregisterKept stag) = Unit {0}
+IsGiven e (TakeRegion stag) = Unit {0}
 IsGiven e (Invalidate stag) = Unit {0}
 IsGiven e (Store stag to octets) = Unit {0}
 IsGiven e (Facts stag) = Unit {0}

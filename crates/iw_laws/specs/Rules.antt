@@ -192,7 +192,7 @@ stream_call_made Break = calls.BreakLink
 abbrev pub call_made : Act Octets → calls.Call
 call_made (Domain pd refused) = calls.AddDomain pd
 call_made (Register pd base rights octets answer) = calls.Register pd base octets rights
-call_made (Deregister stag answer) = calls.Deregister stag
+call_made (Deregister stag answer) = calls.TakeRegion stag
 call_made (Invalidate stag refused) = calls.Invalidate stag
 call_made (Store stag to octets refused) = calls.Store stag to octets
 call_made (Open n pd role options private refused) = calls.Open n pd role (config_for options private)
