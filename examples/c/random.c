@@ -97,11 +97,27 @@ static size_t has(struct iwarp_buffer *buffer, uint8_t **at) {
     return iwarp_buffer_at(buffer, at, &n) == IWARP_OK ? n : MARK;
 }
 
-/* A call took the buffer's octets, or was refused and left them. */
-static void takes(int done, struct iwarp_buffer *buffer, size_t had, const uint8_t *at) {
+/* What a call is made with. */
+struct call {
+    struct iwarp *handle, *other;
+    struct iwarp_buffer *buffer;
+    uint8_t *at; /* the buffer's octets */
+    size_t had; /* how many they are; MARK if it was not made */
+    uint32_t pd, stag, stream;
+    size_t n; /* how many octets it has, or has room for */
+};
+
+/* The buffer has so many octets, at the same address. */
+static void keeps_buffer(const struct call *call) {
     uint8_t *later;
-    size_t n = has(buffer, &later);
-    CHECK(done ? n == 0 : n == had && (n == 0 || later == at));
+    CHECK(has(call->buffer, &later) == call->had && later == call->at);
+}
+
+/* A call took the buffer's octets, or was refused and left them. */
+static void takes(int done, const struct call *call) {
+    uint8_t *later;
+    size_t n = has(call->buffer, &later);
+    CHECK(done ? n == 0 : n == call->had && (n == 0 || later == call->at));
 }
 
 /* A struct that begins with its size has this one, or is mostly refused. */
@@ -114,10 +130,10 @@ static size_t any_size(size_t whole) {
 }
 
 /* A struct that is too short is refused, and nothing is written into it. What is reserved becomes 0. */
-static void call_region_facts(struct iwarp *handle, uint32_t stag) {
+static void call_region_facts(const struct call *call) {
     struct iwarp_region region = {.size = any_size(sizeof region), .facts.base = MARK, .reserved = {MARK}}, was = region;
     struct iwarp_facts facts;
-    int32_t code = iwarp_region_facts(handle, stag, &region), told = iwarp_facts(handle, stag, &facts);
+    int32_t code = iwarp_region_facts(call->handle, call->stag, &region), told = iwarp_facts(call->handle, call->stag, &facts);
     CHECK(code == (told != IWARP_IS_CLOSED && region.size < sizeof region ? IWARP_BAD_STRUCT : told));
     if (!answered(code)) {
         CHECK(memcmp(&region, &was, sizeof region) == 0);
@@ -127,10 +143,10 @@ static void call_region_facts(struct iwarp *handle, uint32_t stag) {
     CHECK(region.reserved[0] == 0 && region.reserved[3] == 0);
 }
 
-static void call_peer_facts(struct iwarp *handle, uint32_t stream) {
+static void call_peer_facts(const struct call *call) {
     struct iwarp_peer peer = {.size = any_size(sizeof peer), .told.ird = MARK, .reserved = {MARK}}, was = peer;
     struct iwarp_told told;
-    int32_t code = iwarp_peer_facts(handle, stream, &peer), known = iwarp_told(handle, stream, &told);
+    int32_t code = iwarp_peer_facts(call->handle, call->stream, &peer), known = iwarp_told(call->handle, call->stream, &told);
     CHECK(code == (known != IWARP_IS_CLOSED && peer.size < sizeof peer ? IWARP_BAD_STRUCT : known));
     if (!answered(code)) {
         CHECK(memcmp(&peer, &was, sizeof peer) == 0);
@@ -202,20 +218,18 @@ static int registered(struct iwarp *handle, int32_t code, const struct iwarp_reg
     return 1;
 }
 
-static void call_register_as(struct iwarp *handle, size_t n) {
+static void call_register_as(const struct call *call) {
     struct iwarp_registration registration = any_registration();
     uint32_t stag = MARK;
-    int32_t code = iwarp_register_as(handle, &registration, given, n, &stag);
-    registered(handle, code, &registration, stag, n);
+    int32_t code = iwarp_register_as(call->handle, &registration, given, call->n, &stag);
+    registered(call->handle, code, &registration, stag, call->n);
 }
 
-static void call_register_buffer_as(struct iwarp *handle, struct iwarp_buffer *buffer) {
+static void call_register_buffer_as(const struct call *call) {
     struct iwarp_registration registration = any_registration();
     uint32_t stag = MARK;
-    uint8_t *at;
-    size_t had = has(buffer, &at);
-    int32_t code = iwarp_register_buffer_as(handle, &registration, buffer, &stag);
-    takes(registered(handle, code, &registration, stag, had), buffer, had, at);
+    int32_t code = iwarp_register_buffer_as(call->handle, &registration, call->buffer, &stag);
+    takes(registered(call->handle, code, &registration, stag, call->had), call);
 }
 
 /* Memory that the program keeps: each piece is registered once in a round. */
@@ -223,46 +237,46 @@ enum { PIECES = 200, PIECE = 300 };
 static uint8_t pieces[PIECES][PIECE];
 static uint32_t registered_pieces;
 
-static void call_register_memory(struct iwarp *handle) {
+static void call_register_memory(const struct call *call) {
     if (registered_pieces == PIECES) return;
     struct iwarp_registration registration = any_registration();
     struct iwarp_memory memory = {pieces[registered_pieces], below(PIECE + 1)}, was = memory;
     uint32_t stag = MARK;
     uint8_t *at;
     size_t n;
-    int32_t code = iwarp_register_memory(handle, &registration, &memory, &stag);
-    if (!registered(handle, code, &registration, stag, was.len)) {
+    int32_t code = iwarp_register_memory(call->handle, &registration, &memory, &stag);
+    if (!registered(call->handle, code, &registration, stag, was.len)) {
         CHECK(memory.len == was.len && (was.len == 0 || memory.at == was.at));
         return;
     }
-    CHECK(memory.len == 0 && iwarp_region_at(handle, stag, &at, &n) == IWARP_OK && n == was.len && (n == 0 || at == was.at));
+    CHECK(memory.len == 0 && iwarp_region_at(call->handle, stag, &at, &n) == IWARP_OK && n == was.len && (n == 0 || at == was.at));
     registered_pieces++;
 }
 
 /* What comes back is the region's own memory, if that is a piece; else another call takes the region, if there is one. */
-static void call_deregister_memory(struct iwarp *handle, uint32_t stag) {
+static void call_deregister_memory(const struct call *call) {
     struct iwarp_memory memory = {NULL, MARK};
     uint8_t *at = NULL;
     size_t n = 0;
-    int32_t there = iwarp_region_at(handle, stag, &at, &n), code = iwarp_deregister_memory(handle, stag, &memory);
+    int32_t there = iwarp_region_at(call->handle, call->stag, &at, &n), code = iwarp_deregister_memory(call->handle, call->stag, &memory);
     int kept = n > 0 && at >= pieces[0] && at < pieces[0] + sizeof pieces;
     if (there != IWARP_OK || code == IWARP_OTHER_MEMORY) {
         CHECK(!kept && (there == IWARP_OK || code == there) && memory.at == NULL && memory.len == MARK);
         return;
     }
     CHECK(code == IWARP_OK && memory.len == n && (n == 0 || (kept && memory.at == at)));
-    CHECK(iwarp_region_at(handle, stag, &at, &n) == IWARP_NO_REGION);
+    CHECK(iwarp_region_at(call->handle, call->stag, &at, &n) == IWARP_NO_REGION);
     if (memory.len > 0) memset(memory.at, 1, memory.len);
 }
 
 /* A handle that is open stays as it is; another is opened by options. */
-static void call_new_with(struct iwarp *handle) {
+static void call_new_with(const struct call *call) {
     struct iwarp_options options = {.size = any_size(sizeof options), .flags = below(4) ? 0 : any_place(), .reserved = {MARK}};
     struct iwarp one = IWARP_CLOSED;
-    void *at = handle->at;
+    void *at = call->handle->at;
     int32_t reason = options.size < sizeof options ? IWARP_BAD_STRUCT : options.flags ? IWARP_BAD_BITS : IWARP_OK;
     if (at) {
-        CHECK(iwarp_new_with(handle, &options) == (reason ? reason : IWARP_ALREADY_OPEN) && handle->at == at);
+        CHECK(iwarp_new_with(call->handle, &options) == (reason ? reason : IWARP_ALREADY_OPEN) && call->handle->at == at);
         return;
     }
     int32_t code = iwarp_new_with(&one, &options);
@@ -272,119 +286,116 @@ static void call_new_with(struct iwarp *handle) {
 }
 
 /* The first n octets go, and the others stay as they are. */
-static void call_drop_front(struct iwarp_buffer *buffer, size_t n) {
+static void call_drop_front(const struct call *call) {
     static uint8_t kept[LONGEST];
-    uint8_t *at, *later;
-    size_t had = has(buffer, &at), left = had == MARK || n > had ? 0 : had - n;
+    uint8_t *later;
+    size_t had = call->had, n = call->n, left = had == MARK || n > had ? 0 : had - n;
     if (left > sizeof kept) left = sizeof kept;
-    if (left > 0) memcpy(kept, at + n, left);
-    if (!answered(iwarp_buffer_drop_front(buffer, n))) {
+    if (left > 0) memcpy(kept, call->at + n, left);
+    if (!answered(iwarp_buffer_drop_front(call->buffer, n))) {
         CHECK(had == MARK);
         return;
     }
-    CHECK(has(buffer, &later) == (n > had ? 0 : had - n) && (left == 0 || memcmp(later, kept, left) == 0));
+    CHECK(has(call->buffer, &later) == (n > had ? 0 : had - n) && (left == 0 || memcmp(later, kept, left) == 0));
 }
 
-/* Memory. */
-static void call_memory(struct iwarp *handle, struct iwarp_buffer *buffer) {
-    uint32_t stag = MARK, pd = any_domain(), named = any_stag();
-    size_t n = MARK, len = any_length();
-    struct iwarp_facts facts;
-    uint8_t *at, *later;
-    size_t had = has(buffer, &at);
-    switch (below(23)) {
-    case 0:
-        answered(iwarp_add_domain(handle, pd));
+static void call_add_domain(const struct call *call) { answered(iwarp_add_domain(call->handle, call->pd)); }
+
+/* A region was registered under the STag that is told, or none was and none is told. Returns whether one was. */
+static int named(int32_t code, uint32_t stag) {
+    int done = answered(code);
+    if (done)
+        stags[below(16)] = stag;
+    else
+        CHECK(stag == MARK);
+    return done;
+}
+
+static void call_register(const struct call *call) {
+    uint32_t stag = MARK;
+    int32_t code = iwarp_register(call->handle, call->pd, any_place(), given, call->n, any_bits(15), &stag);
+    named(code, stag);
+}
+
+static void call_register_for(const struct call *call) {
+    uint32_t stag = MARK;
+    int32_t code = iwarp_register_for(call->handle, any_stream(), any_place(), given, call->n, any_bits(15), &stag);
+    named(code, stag);
+}
+
+/* The buffer's octets are a region's then, or it keeps them. */
+static void takes_region(int done, const struct call *call) {
+    uint8_t *later;
+    if (done)
+        CHECK(has(call->buffer, &later) == 0);
+    else
+        keeps_buffer(call);
+}
+
+static void call_register_buffer(const struct call *call) {
+    uint32_t stag = MARK;
+    int32_t code = iwarp_register_buffer(call->handle, call->pd, any_place(), call->buffer, any_bits(15), &stag);
+    takes_region(named(code, stag), call);
+}
+
+static void call_register_buffer_for(const struct call *call) {
+    uint32_t stag = MARK;
+    int32_t code = iwarp_register_buffer_for(call->handle, any_stream(), any_place(), call->buffer, any_bits(15), &stag);
+    takes_region(named(code, stag), call);
+}
+
+static void call_deregister(const struct call *call) {
+    size_t n = MARK;
+    keeps_out(answered(iwarp_deregister(call->handle, call->stag, out, call->n, &n)));
+}
+
+static void call_deregister_buffer(const struct call *call) {
+    if (!answered(iwarp_deregister_buffer(call->handle, call->stag, call->buffer))) keeps_buffer(call);
+}
+
+static void call_drop_region(const struct call *call) { answered(iwarp_drop_region(call->handle, call->stag)); }
+
+static void call_region_at(const struct call *call) {
+    uint8_t *at;
+    size_t n = MARK;
+    if (!answered(iwarp_region_at(call->handle, call->stag, &at, &n))) {
+        CHECK(n == MARK);
         return;
-    case 21:
-        call_register_memory(handle);
-        return;
-    case 22:
-        call_deregister_memory(handle, named);
-        return;
-    case 19:
-        call_register_as(handle, len);
-        return;
-    case 20:
-        call_register_buffer_as(handle, buffer);
-        return;
-    case 17:
-        call_region_facts(handle, named);
-        return;
-    case 18:
-        call_new_with(handle);
-        return;
-    case 15:
-        call_drop_front(buffer, len);
-        return;
-    case 13:
-        if (answered(iwarp_register_for(handle, any_stream(), any_place(), given, len, any_bits(15), &stag)))
-            stags[below(16)] = stag;
-        else
-            CHECK(stag == MARK);
-        return;
-    case 14:
-        if (answered(iwarp_register_buffer_for(handle, any_stream(), any_place(), buffer, any_bits(15), &stag))) {
-            stags[below(16)] = stag;
-            CHECK(has(buffer, &later) == 0);
-        } else {
-            CHECK(stag == MARK && has(buffer, &later) == had && later == at);
-        }
-        return;
-    case 1:
-        if (answered(iwarp_register(handle, pd, any_place(), given, len, any_bits(15), &stag)))
-            stags[below(16)] = stag;
-        else
-            CHECK(stag == MARK);
-        return;
-    case 2:
-        if (answered(iwarp_register_buffer(handle, pd, any_place(), buffer, any_bits(15), &stag))) {
-            stags[below(16)] = stag;
-            CHECK(has(buffer, &later) == 0);
-        } else {
-            CHECK(stag == MARK && has(buffer, &later) == had && later == at);
-        }
-        return;
-    case 3:
-        keeps_out(answered(iwarp_deregister(handle, named, out, len, &n)));
-        return;
-    case 4:
-        if (!answered(iwarp_deregister_buffer(handle, named, buffer))) CHECK(has(buffer, &later) == had && later == at);
-        return;
-    case 5:
-        answered(iwarp_drop_region(handle, named));
-        return;
-    case 6:
-        if (answered(iwarp_region_at(handle, named, &at, &n))) {
-            for (size_t i = 0; i < n; i += 97) at[i] ^= 1;
-        } else {
-            CHECK(n == MARK);
-        }
-        return;
-    case 7:
-        if (below(8) == 0) answered(iwarp_invalidate(handle, named));
-        return;
-    case 8:
-        answered(iwarp_store(handle, named, any_place(), given, len));
-        return;
-    case 9:
-        keeps_out(answered(iwarp_load(handle, named, any_place(), out, len)));
-        return;
-    case 10:
-        if (answered(iwarp_facts(handle, named, &facts))) CHECK(facts.valid < 2 && facts.rights < 16 && facts.limited < 2);
-        return;
-    case 11:
-        if (answered(iwarp_buffer_new(len, buffer)))
-            CHECK(had == MARK && has(buffer, &later) == len);
-        else
-            CHECK(has(buffer, &later) == had);
-        return;
-    case 12:
-        if (answered(iwarp_buffer_truncate(buffer, len))) CHECK(has(buffer, &later) == (len < had ? len : had));
-        return;
-    default:
-        if (below(4) == 0) iwarp_buffer_free(buffer);
     }
+    for (size_t i = 0; i < n; i += 97) at[i] ^= 1;
+}
+
+static void call_invalidate(const struct call *call) {
+    if (below(8) == 0) answered(iwarp_invalidate(call->handle, call->stag));
+}
+
+static void call_store(const struct call *call) { answered(iwarp_store(call->handle, call->stag, any_place(), given, call->n)); }
+
+static void call_load(const struct call *call) {
+    keeps_out(answered(iwarp_load(call->handle, call->stag, any_place(), out, call->n)));
+}
+
+static void call_facts(const struct call *call) {
+    struct iwarp_facts facts;
+    if (answered(iwarp_facts(call->handle, call->stag, &facts))) CHECK(facts.valid < 2 && facts.rights < 16 && facts.limited < 2);
+}
+
+static void call_buffer_new(const struct call *call) {
+    uint8_t *later;
+    if (answered(iwarp_buffer_new(call->n, call->buffer)))
+        CHECK(call->had == MARK && has(call->buffer, &later) == call->n);
+    else
+        CHECK(has(call->buffer, &later) == call->had);
+}
+
+static void call_truncate(const struct call *call) {
+    uint8_t *later;
+    if (answered(iwarp_buffer_truncate(call->buffer, call->n)))
+        CHECK(has(call->buffer, &later) == (call->n < call->had ? call->n : call->had));
+}
+
+static void call_buffer_free(const struct call *call) {
+    if (below(4) == 0) iwarp_buffer_free(call->buffer);
 }
 
 /* A stream was opened under the number that is told, or none was and none is told. */
@@ -395,81 +406,92 @@ static void opened(int32_t code, const uint32_t *number) {
         CHECK(*number == MARK);
 }
 
-/* Streams and pools. */
-static void call_stream(struct iwarp *handle, struct iwarp_buffer *buffer) {
-    uint32_t stream = any_stream(), pd = any_domain(), found = MARK, agreed = MARK, life = MARK, number = MARK;
-    size_t n = MARK, len = any_length();
+static void call_open_next(const struct call *call) {
+    uint32_t number = MARK;
+    int32_t code = iwarp_open_next(call->handle, call->pd, below(3), any_bits(15), given, below(600), &number);
+    opened(code, &number);
+}
+
+static void call_open_shared_next(const struct call *call) {
+    uint32_t number = MARK;
+    int32_t code = iwarp_open_shared_next(call->handle, call->pd, below(3), any_bits(15), given, below(600), &number);
+    opened(code, &number);
+}
+
+static uint32_t any_role(void) { return below(20) ? below(3) : chance(); }
+
+static void call_open(const struct call *call) {
+    answered(iwarp_open(call->handle, call->stream, call->pd, any_role(), any_bits(15), given, below(600)));
+}
+
+static void call_open_shared(const struct call *call) {
+    answered(iwarp_open_shared(call->handle, call->stream, call->pd, any_role(), any_bits(15), given, below(600)));
+}
+
+static void call_close(const struct call *call) { answered(iwarp_close(call->handle, call->stream)); }
+
+static void call_accept(const struct call *call) {
+    uint32_t agreed = MARK;
+    if (!answered(iwarp_accept(call->handle, call->stream, given, below(600), &agreed))) CHECK(agreed == MARK);
+}
+
+static void call_reject(const struct call *call) {
+    if (below(4) == 0) answered(iwarp_reject(call->handle, call->stream, given, below(600)));
+}
+
+static void call_private(const struct call *call) {
+    size_t n = MARK;
+    keeps_out(answered(iwarp_private(call->handle, call->stream, out, call->n, &n)));
+}
+
+static void call_told(const struct call *call) {
     struct iwarp_told told;
-    uint8_t *at, *later;
-    size_t had = has(buffer, &at);
-    switch (below(18)) {
-    case 17:
-        call_peer_facts(handle, stream);
+    if (answered(iwarp_told(call->handle, call->stream, &told)))
+        CHECK(told.revision < 3 && told.markers < 2 && told.has_word <= told.revision / 2);
+}
+
+static void call_state(const struct call *call) {
+    uint32_t life = MARK;
+    CHECK(answered(iwarp_state(call->handle, call->stream, &life)) ? life <= IWARP_STATE_ENDED : life == MARK);
+}
+
+static void call_break(const struct call *call) {
+    if (below(8) == 0) answered(iwarp_break(call->handle, call->stream));
+}
+
+static void call_set_mulpdu(const struct call *call) {
+    answered(iwarp_set_mulpdu(call->handle, call->stream, below(4) ? 128 + below(3000) : chance()));
+}
+
+static void call_first_number(const struct call *call) { answered(iwarp_first_number(call->handle, call->stream, chance())); }
+
+static void call_share(const struct call *call) { answered(iwarp_share(call->handle, call->pd)); }
+
+static void call_post_shared(const struct call *call) { answered(iwarp_post_shared(call->handle, call->pd, call->n)); }
+
+static void call_post_shared_buffer(const struct call *call) {
+    takes(answered(iwarp_post_shared_buffer(call->handle, call->pd, call->buffer)), call);
+}
+
+static void call_take_shared_buffer(const struct call *call) {
+    uint32_t found = MARK;
+    if (answered(iwarp_take_shared_buffer(call->handle, call->pd, call->buffer, &found))) {
+        CHECK(found < 2);
         return;
-    case 14:
-        opened(iwarp_open_next(handle, pd, below(3), any_bits(15), given, below(600), &number), &number);
-        return;
-    case 15:
-        opened(iwarp_open_shared_next(handle, pd, below(3), any_bits(15), given, below(600), &number), &number);
-        return;
-    case 16:
-        answered(iwarp_close(handle, stream));
-        return;
-    case 0:
-        answered(iwarp_open(handle, stream, pd, below(20) ? below(3) : chance(), any_bits(15), given, below(600)));
-        return;
-    case 1:
-        answered(iwarp_open_shared(handle, stream, pd, below(20) ? below(3) : chance(), any_bits(15), given, below(600)));
-        return;
-    case 2:
-        if (!answered(iwarp_accept(handle, stream, given, below(600), &agreed))) CHECK(agreed == MARK);
-        return;
-    case 3:
-        if (below(4) == 0) answered(iwarp_reject(handle, stream, given, below(600)));
-        return;
-    case 4:
-        keeps_out(answered(iwarp_private(handle, stream, out, len, &n)));
-        return;
-    case 5:
-        if (answered(iwarp_told(handle, stream, &told))) CHECK(told.revision < 3 && told.markers < 2 && told.has_word <= told.revision / 2);
-        return;
-    case 13:
-        CHECK(answered(iwarp_state(handle, stream, &life)) ? life <= IWARP_STATE_ENDED : life == MARK);
-        return;
-    case 6:
-        if (below(8) == 0) answered(iwarp_break(handle, stream));
-        return;
-    case 7:
-        answered(iwarp_set_mulpdu(handle, stream, below(4) ? 128 + below(3000) : chance()));
-        return;
-    case 8:
-        answered(iwarp_first_number(handle, stream, chance()));
-        return;
-    case 9:
-        answered(iwarp_share(handle, pd));
-        return;
-    case 10:
-        answered(iwarp_post_shared(handle, pd, len));
-        return;
-    case 11:
-        takes(answered(iwarp_post_shared_buffer(handle, pd, buffer)), buffer, had, at);
-        return;
-    default:
-        if (answered(iwarp_take_shared_buffer(handle, pd, buffer, &found)))
-            CHECK(found < 2);
-        else
-            CHECK(found == MARK && has(buffer, &later) == had && later == at);
     }
+    CHECK(found == MARK);
+    keeps_buffer(call);
 }
 
 /* The next emission is one just if it was told. */
-static void call_due(struct iwarp *handle, uint32_t stream) {
+static void call_due(const struct call *call) {
+    struct iwarp *handle = call->handle;
     struct iwarp_emission emission;
     uint32_t wants = MARK;
     size_t n;
-    if (!answered(iwarp_wants_write(handle, stream, &wants)))
+    if (!answered(iwarp_wants_write(handle, call->stream, &wants)))
         CHECK(wants == MARK);
-    else if (answered(iwarp_emit(handle, stream, out, sizeof out, &n, &emission)))
+    else if (answered(iwarp_emit(handle, call->stream, out, sizeof out, &n, &emission)))
         CHECK(wants == (emission.kind != IWARP_NOTHING));
 }
 
@@ -502,7 +524,9 @@ static void call_in_between(struct iwarp *handle, uint32_t stream) {
 
 /* Octets are written to the place that is lent, and counted, whatever other streams do meanwhile; or a call on this stream takes the
  * place back. */
-static void call_room(struct iwarp *handle, uint32_t stream) {
+static void call_room(const struct call *call) {
+    struct iwarp *handle = call->handle;
+    uint32_t stream = call->stream;
     size_t want = below(3) ? below(400) : chance(), n = MARK;
     uint32_t other = any_stream();
     uint8_t *at = 0;
@@ -550,9 +574,9 @@ static int filled(struct iwarp *handle, uint32_t stream, size_t most, struct iwa
     return 1;
 }
 
-static void call_fill(struct iwarp *handle, uint32_t stream, size_t most, struct iwarp_buffer *buffer) {
+static void call_fill(const struct call *call) {
     struct iwarp_filling filling;
-    filled(handle, stream, most, buffer, &filling);
+    filled(call->handle, call->stream, below(2) ? call->n : below(3), call->buffer, &filling);
 }
 
 /* Does a step, or steps; perhaps with a share of a pool, or a mark. */
@@ -565,97 +589,199 @@ static int32_t any_work(struct iwarp *handle, uint32_t stream, struct iwarp_even
     }
 }
 
-/* Postings, and octets that come and go: those of the one handle to the other, or any. */
-static void call_octets(struct iwarp *handle, struct iwarp *other, struct iwarp_buffer *buffer) {
+static void call_work(const struct call *call) {
+    struct iwarp_event event = {.kind = MARK};
+    if (answered(any_work(call->handle, call->stream, &event)))
+        CHECK(event.kind <= IWARP_TRIED && event.reserved[0] == 0);
+    else
+        CHECK(event.kind == MARK);
+}
+
+static void call_post(const struct call *call) {
+    struct iwarp_posting posting = any_posting();
+    size_t n = below(8) ? call->n : 0;
+    judged(iwarp_post(call->handle, call->stream, &posting, iwarp_octets(n ? given : 0), n), wrong_in(&posting));
+}
+
+static void call_post_buffer(const struct call *call) {
+    struct iwarp_posting posting = any_posting();
+    takes(judged(iwarp_post_buffer(call->handle, call->stream, &posting, call->buffer), wrong_for_a_buffer(&posting)), call);
+}
+
+static void call_post_send(const struct call *call) {
+    answered(iwarp_post_send(call->handle, call->stream, given, call->n, any_bits(3), any_stag(), chance()));
+}
+
+static void call_post_send_buffer(const struct call *call) {
+    takes(answered(iwarp_post_send_buffer(call->handle, call->stream, call->buffer, any_bits(3), any_stag(), chance())), call);
+}
+
+static void call_post_write(const struct call *call) {
+    answered(iwarp_post_write(call->handle, call->stream, any_stag(), any_place(), given, call->n, chance()));
+}
+
+static void call_post_write_buffer(const struct call *call) {
+    takes(answered(iwarp_post_write_buffer(call->handle, call->stream, any_stag(), any_place(), call->buffer, chance())), call);
+}
+
+static void call_post_read(const struct call *call) {
+    uint32_t n = below(4) ? below(LONGEST) : chance();
+    answered(iwarp_post_read(call->handle, call->stream, any_stag(), any_place(), n, any_stag(), any_place(), chance()));
+}
+
+static void call_post_recv(const struct call *call) {
+    answered(iwarp_post_recv(call->handle, call->stream, below(40) ? call->n : (size_t)chance() << 8));
+}
+
+static void call_post_recv_buffer(const struct call *call) {
+    takes(answered(iwarp_post_recv_buffer(call->handle, call->stream, call->buffer)), call);
+}
+
+static void call_progress(const struct call *call) {
+    struct iwarp_progress progress = {.sent = MARK};
+    if (!answered(iwarp_progress(call->handle, call->stream, &progress)))
+        CHECK(progress.sent == MARK);
+    else
+        CHECK(progress.bound <= 256 && progress.reserved[0] == 0);
+}
+
+/* What the one handle emits comes to the other. */
+static void call_emit_and_deliver(const struct call *call) {
     static uint8_t frame[66000];
     static uint32_t next[HANDLES][4];
-    uint32_t stream = any_stream(), kept = MARK;
-    size_t n = MARK, len = any_length();
-    struct iwarp_event event = {.kind = MARK};
+    struct iwarp_emission emission;
+    uint32_t kept = MARK, stream = call->stream;
+    size_t n = MARK;
+    if (!answered(iwarp_emit(call->handle, stream, frame, sizeof frame, &n, &emission)) || stream >= 4) return;
+    uint32_t *number = &next[call->other == &handles[1]][stream];
+    if (answered(iwarp_deliver(call->other, stream, *number, frame, n, &kept)) && kept == 1) *number += (uint32_t)n;
+}
+
+static void call_emit(const struct call *call) {
     struct iwarp_emission emission = {.kind = MARK};
-    uint8_t *at, *later;
-    size_t had = has(buffer, &at);
-    struct iwarp_progress progress = {.sent = MARK};
-    struct iwarp_posting posting = any_posting();
-    switch (below(21)) {
-    case 19:
-        if (below(8) == 0) len = 0;
-        judged(iwarp_post(handle, stream, &posting, iwarp_octets(len ? given : 0), len), wrong_in(&posting));
-        return;
-    case 20:
-        takes(judged(iwarp_post_buffer(handle, stream, &posting, buffer), wrong_for_a_buffer(&posting)), buffer, had, at);
-        return;
-    case 17:
-        call_fill(handle, stream, below(2) ? len : below(3), buffer);
-        return;
-    case 14:
-        takes(answered(iwarp_post_send_buffer(handle, stream, buffer, any_bits(3), any_stag(), chance())), buffer, had, at);
-        return;
-    case 15:
-        takes(answered(iwarp_post_write_buffer(handle, stream, any_stag(), any_place(), buffer, chance())), buffer, had, at);
-        return;
-    case 16:
-        if (!fetched(iwarp_fetch_sent(handle, stream, buffer), handle, stream, had != MARK))
-            CHECK(has(buffer, &later) == had && later == at);
-        return;
-    case 13:
-        call_room(handle, stream);
-        return;
-    case 12:
-        call_due(handle, stream);
-        return;
-    case 11:
-        if (!answered(iwarp_progress(handle, stream, &progress)))
-            CHECK(progress.sent == MARK);
-        else
-            CHECK(progress.bound <= 256 && progress.reserved[0] == 0);
-        return;
-    case 0:
-        answered(iwarp_post_send(handle, stream, given, len, any_bits(3), any_stag(), chance()));
-        return;
-    case 1:
-        answered(iwarp_post_write(handle, stream, any_stag(), any_place(), given, len, chance()));
-        return;
-    case 2:
-        answered(iwarp_post_read(handle, stream, any_stag(), any_place(), below(4) ? below(LONGEST) : chance(), any_stag(), any_place(),
-                                 chance()));
-        return;
-    case 3:
-        answered(iwarp_post_recv(handle, stream, below(40) ? len : (size_t)chance() << 8));
-        return;
-    case 4:
-        takes(answered(iwarp_post_recv_buffer(handle, stream, buffer)), buffer, had, at);
-        return;
-    case 5:
-        if (answered(iwarp_emit(handle, stream, frame, sizeof frame, &n, &emission)) && stream < 4) {
-            uint32_t *number = &next[other == &handles[1]][stream];
-            if (answered(iwarp_deliver(other, stream, *number, frame, n, &kept)) && kept == 1) *number += (uint32_t)n;
-        }
-        return;
-    case 6:
-        if (!answered(iwarp_emit(handle, stream, out, len < 40 ? len : sizeof out, &n, &emission))) CHECK(emission.kind == MARK);
-        return;
-    case 7:
-        if (!answered(iwarp_emit_onto(handle, stream, buffer, &emission)))
-            CHECK(emission.kind == MARK && has(buffer, &later) == had); /* perhaps at another address */
-        return;
-    case 8:
-        if (!answered(iwarp_deliver(handle, stream, below(3) ? below(400) : chance(), given, len, &kept))) CHECK(kept == MARK);
-        return;
-    case 9:
-        if (below(8) == 0) len = 0;
-        keeps_out(fetched(iwarp_fetch(handle, stream, iwarp_out(len ? out : 0), len, &n), handle, stream, 1));
-        return;
-    case 10:
-        if (!fetched(iwarp_fetch_buffer(handle, stream, buffer, &n), handle, stream, had != MARK))
-            CHECK(n == MARK && has(buffer, &later) == had && later == at);
-        return;
-    default:
-        if (answered(any_work(handle, stream, &event)))
-            CHECK(event.kind <= IWARP_TRIED && event.reserved[0] == 0);
-        else
-            CHECK(event.kind == MARK);
-    }
+    size_t n, room = call->n < 40 ? call->n : sizeof out;
+    if (!answered(iwarp_emit(call->handle, call->stream, out, room, &n, &emission))) CHECK(emission.kind == MARK);
+}
+
+/* If it is refused, the buffer's octets may stand at another address. */
+static void call_emit_onto(const struct call *call) {
+    struct iwarp_emission emission = {.kind = MARK};
+    uint8_t *later;
+    if (!answered(iwarp_emit_onto(call->handle, call->stream, call->buffer, &emission)))
+        CHECK(emission.kind == MARK && has(call->buffer, &later) == call->had);
+}
+
+static void call_deliver(const struct call *call) {
+    uint32_t kept = MARK, number = below(3) ? below(400) : chance();
+    if (!answered(iwarp_deliver(call->handle, call->stream, number, given, call->n, &kept))) CHECK(kept == MARK);
+}
+
+static void call_fetch(const struct call *call) {
+    size_t n = MARK, room = below(8) ? call->n : 0;
+    int32_t code = iwarp_fetch(call->handle, call->stream, iwarp_out(room ? out : 0), room, &n);
+    keeps_out(fetched(code, call->handle, call->stream, 1));
+}
+
+static void call_fetch_buffer(const struct call *call) {
+    size_t n = MARK;
+    int32_t code = iwarp_fetch_buffer(call->handle, call->stream, call->buffer, &n);
+    if (fetched(code, call->handle, call->stream, call->had != MARK)) return;
+    CHECK(n == MARK);
+    keeps_buffer(call);
+}
+
+static void call_fetch_sent(const struct call *call) {
+    int32_t code = iwarp_fetch_sent(call->handle, call->stream, call->buffer);
+    if (!fetched(code, call->handle, call->stream, call->had != MARK)) keeps_buffer(call);
+}
+
+/* All calls, and how often each is made: of five one is about memory, one about streams and pools, and three about postings and octets
+ * that come and go. */
+enum { OF_MEMORY = 18 * 21, OF_STREAMS = 23 * 21, OF_OCTETS = 18 * 23 * 3 };
+
+static const struct {
+    void (*make)(const struct call *call);
+    uint32_t often;
+} calls[] = {
+    {call_add_domain, OF_MEMORY},
+    {call_register, OF_MEMORY},
+    {call_register_for, OF_MEMORY},
+    {call_register_as, OF_MEMORY},
+    {call_register_buffer, OF_MEMORY},
+    {call_register_buffer_for, OF_MEMORY},
+    {call_register_buffer_as, OF_MEMORY},
+    {call_register_memory, OF_MEMORY},
+    {call_deregister, OF_MEMORY},
+    {call_deregister_buffer, OF_MEMORY},
+    {call_deregister_memory, OF_MEMORY},
+    {call_drop_region, OF_MEMORY},
+    {call_region_at, OF_MEMORY},
+    {call_region_facts, OF_MEMORY},
+    {call_facts, OF_MEMORY},
+    {call_invalidate, OF_MEMORY},
+    {call_store, OF_MEMORY},
+    {call_load, OF_MEMORY},
+    {call_buffer_new, OF_MEMORY},
+    {call_buffer_free, OF_MEMORY},
+    {call_truncate, OF_MEMORY},
+    {call_drop_front, OF_MEMORY},
+    {call_new_with, OF_MEMORY},
+    {call_open, OF_STREAMS},
+    {call_open_next, OF_STREAMS},
+    {call_open_shared, OF_STREAMS},
+    {call_open_shared_next, OF_STREAMS},
+    {call_close, OF_STREAMS},
+    {call_accept, OF_STREAMS},
+    {call_reject, OF_STREAMS},
+    {call_private, OF_STREAMS},
+    {call_told, OF_STREAMS},
+    {call_peer_facts, OF_STREAMS},
+    {call_state, OF_STREAMS},
+    {call_break, OF_STREAMS},
+    {call_set_mulpdu, OF_STREAMS},
+    {call_first_number, OF_STREAMS},
+    {call_share, OF_STREAMS},
+    {call_post_shared, OF_STREAMS},
+    {call_post_shared_buffer, OF_STREAMS},
+    {call_take_shared_buffer, OF_STREAMS},
+    {call_post, OF_OCTETS},
+    {call_post_buffer, OF_OCTETS},
+    {call_post_send, OF_OCTETS},
+    {call_post_send_buffer, OF_OCTETS},
+    {call_post_write, OF_OCTETS},
+    {call_post_write_buffer, OF_OCTETS},
+    {call_post_read, OF_OCTETS},
+    {call_post_recv, OF_OCTETS},
+    {call_post_recv_buffer, OF_OCTETS},
+    {call_room, OF_OCTETS},
+    {call_deliver, OF_OCTETS},
+    {call_emit_and_deliver, OF_OCTETS},
+    {call_emit, OF_OCTETS},
+    {call_emit_onto, OF_OCTETS},
+    {call_fill, OF_OCTETS},
+    {call_due, OF_OCTETS},
+    {call_work, OF_OCTETS},
+    {call_progress, OF_OCTETS},
+    {call_fetch, OF_OCTETS},
+    {call_fetch_buffer, OF_OCTETS},
+    {call_fetch_sent, OF_OCTETS},
+};
+
+enum { CALLS = sizeof calls / sizeof *calls };
+
+/* Makes any of the calls. */
+static void make_one(struct iwarp *handle, struct iwarp *other, struct iwarp_buffer *buffer) {
+    static uint32_t all; /* how often all are made together */
+    struct call call = {.handle = handle, .other = other, .buffer = buffer, .n = any_length()};
+    call.pd = any_domain();
+    call.stag = any_stag();
+    call.stream = any_stream();
+    call.had = has(buffer, &call.at);
+    if (all == 0)
+        for (size_t i = 0; i < CALLS; i++) all += calls[i].often;
+    uint32_t left = below(all), which = 0;
+    while (left >= calls[which].often) left -= calls[which++].often;
+    calls[which].make(&call);
 }
 
 static void any_calls(void) {
@@ -671,11 +797,7 @@ static void any_calls(void) {
         refused_before = refused;
         for (int k = 0; k < 8; k++) given[below(LONGEST)] = (uint8_t)chance();
         memcpy(before, out, sizeof out);
-        switch (below(5)) {
-        case 0: call_memory(handle, buffer); break;
-        case 1: call_stream(handle, buffer); break;
-        default: call_octets(handle, other, buffer); break;
-        }
+        make_one(handle, other, buffer);
         if (below(2000) == 0) {
             iwarp_free(handle);
             refused_before = refused;
