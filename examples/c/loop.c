@@ -1,6 +1,6 @@
 /* The loop of loop.h, at both ends of a connection whose sockets take and give 1 to 100 octets at a time, or would wait, or are
  * interrupted. Each request for memory is refused in turn: what arrives is what was posted. Then a peer that goes on before its
- * Request is answered, and one whose Read is denied. Prints `ok`, or the first answer that is wrong, with status 1. It is linked
+ * Request is answered, one whose Read is denied, one that sends many small frames, and one that sends much. Prints `ok`, or the first answer that is wrong, with status 1. It is linked
  * with -Wl,--wrap=malloc,--wrap=realloc,--wrap=send,--wrap=recv. */
 #include "host.h"
 #include "loop.h"
@@ -12,6 +12,8 @@ enum { DOMAIN = 1, SENDS = 8, LONGEST = 1500, REGION = SENDS * LONGEST, ALL = 3 
 static uint64_t state = 1;
 static unsigned long requests, refused_one; /* how many requests for memory were made, and which of them is refused; 0: none */
 static unsigned long reads; /* how often a socket was read */
+static size_t asked_for; /* for how many octets it was read last */
+static int smooth; /* sockets take and give what there is */
 
 static uint32_t below(uint32_t n) {
     state ^= state << 13;
@@ -50,13 +52,13 @@ void *__wrap_realloc(void *at, size_t n) { return ++requests == refused_one ? 0 
 /* Whether a socket answers that the call is to be made later. */
 static int puts_off(void) {
     errno = below(2) ? EAGAIN : EINTR;
-    return below(6) == 0;
+    return !smooth && below(6) == 0;
 }
 
 static size_t piece_of(size_t n) {
     size_t most = 1 + below(PIECE);
     CHECK(n > 0); /* of no octets a socket answers 0, as at the end of input */
-    return n < most ? n : most;
+    return smooth || n < most ? n : most;
 }
 
 ssize_t __wrap_send(int fd, const void *octets, size_t n, int flags) {
@@ -65,6 +67,7 @@ ssize_t __wrap_send(int fd, const void *octets, size_t n, int flags) {
 
 ssize_t __wrap_recv(int fd, void *octets, size_t n, int flags) {
     reads++;
+    asked_for = n;
     return puts_off() ? -1 : __real_recv(fd, octets, piece_of(n), flags);
 }
 
@@ -153,6 +156,7 @@ static void begin(struct end *end, uint32_t role, uint32_t options, int fd) {
     MUST(iwarp_set_mulpdu(&end->handle, carried->stream, 128 + below(1500)));
     for (int i = 0; i < SENDS; i++) MUST(iwarp_post_recv(&end->handle, carried->stream, LONGEST));
     MUST(iwarp_buffer_new(0, &carried->frames));
+    carried->steps = below(8); /* perhaps all */
 }
 
 /* Two ends, of which the first asks and the second answers. */
@@ -175,7 +179,9 @@ static void finish(struct end *end) {
 
 /* ---- what is posted arrives */
 
-static void may_go_on(enum turn turn) { CHECK(turn == TURN_DONE || turn == TURN_LEFT || turn == TURN_NO_MEMORY); }
+static void may_go_on(enum turn turn) {
+    CHECK(turn == TURN_DONE || turn == TURN_LEFT || turn == TURN_MORE || turn == TURN_NO_MEMORY);
+}
 
 static void pass(struct end *end) {
     answer(end);
@@ -326,6 +332,69 @@ static void denies(void) {
     finish(denier);
 }
 
+/* ---- a peer that sends many small frames, and one that sends much */
+
+/* Opens both ends, over sockets that take and give what there is, and has the first send Writes. The second does at most so many steps
+ * a turn. */
+static void sends_writes(int count, size_t n, unsigned steps) {
+    struct end *from = &ends[0], *to = &ends[1];
+    opens_both();
+    while (is_readable(&to->carried) == TURN_MORE || is_writable(&to->carried) != TURN_DONE) {
+    }
+    smooth = 1;
+    to->carried.steps = steps;
+    for (int i = 0; i < count; i++) {
+        MUST(iwarp_post_write(&from->handle, from->carried.stream, to->region, 0, octets, n, from->posted++));
+        while (is_writable(&from->carried) == TURN_MORE) {
+        }
+    }
+}
+
+static uint64_t passed(struct end *end) {
+    struct iwarp_progress progress;
+    CHECK(iwarp_progress(&end->handle, end->carried.stream, &progress) == IWARP_OK);
+    return progress.in_order;
+}
+
+static void finish_both(void) {
+    smooth = 0;
+    for (int i = 0; i < 2; i++) finish(&ends[i]);
+}
+
+/* No turn does more steps than it may, whichever call it is, and all frames have their turn. */
+static void bounds_a_turn(void) {
+    enum { WRITES = 200, STEPS = 8, FRAME = 20 };
+    struct end *to = &ends[1];
+    enum turn turn = TURN_MORE;
+    int turns = 0;
+    sends_writes(WRITES, 0, STEPS);
+    uint64_t begun = passed(to);
+    while (turn == TURN_MORE) {
+        uint64_t before = passed(to);
+        turn = turns++ % 2 ? is_writable(&to->carried) : is_readable(&to->carried);
+        CHECK(passed(to) - before <= STEPS * FRAME && turns < MOST_PASSES);
+    }
+    CHECK(turn == TURN_DONE && passed(to) - begun == WRITES * FRAME && turns >= WRITES / STEPS);
+    to->carried.share = 1; /* then no call counts steps, and a turn reads less */
+    CHECK(is_readable(&to->carried) == TURN_DONE && asked_for == SHARED_READ);
+    finish_both();
+}
+
+/* Each read that fills what was asked for has the next ask for four times as many; one that brings less changes nothing. */
+static void reads_grow(void) {
+    static const size_t wanted[] = {4096, 16384, 65536, 65536};
+    struct end *to = &ends[1];
+    sends_writes(15, REGION, 0);
+    for (int i = 0; i < 4; i++) {
+        CHECK(is_readable(&to->carried) == TURN_DONE && asked_for == wanted[i]);
+        CHECK(is_writable(&to->carried) == TURN_DONE);
+    }
+    finish_both();
+    sends_writes(1, 1000, 0);
+    for (int i = 0; i < 3; i++) CHECK(is_readable(&to->carried) == TURN_DONE && asked_for == 4096);
+    finish_both();
+}
+
 int main(void) {
     unsigned long refused = 1;
     while (exchange(refused)) refused++;
@@ -333,6 +402,8 @@ int main(void) {
     waits_for_the_answer();
     fills_the_window();
     denies();
+    bounds_a_turn();
+    reads_grow();
     printf("ok %lu\n", refused - 1);
     return 0;
 }
