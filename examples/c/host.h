@@ -62,13 +62,25 @@ static inline struct sockaddr_in local_port(unsigned short port) {
     return address;
 }
 
+enum { ADDRESS_TEXT = 24, SOCKET_BUFFER = 262144 };
+
+/* Writes an address and its port, as `127.0.0.1:80`. */
+static inline void address_text(const struct sockaddr_in *address, char text[ADDRESS_TEXT]) {
+    const uint8_t *at = (const uint8_t *)&address->sin_addr;
+    snprintf(text, ADDRESS_TEXT, "%u.%u.%u.%u:%u", at[0], at[1], at[2], at[3], ntohs(address->sin_port));
+}
+
+static inline int set_option(int fd, int option, int value) { return setsockopt(fd, SOL_SOCKET, option, &value, sizeof value); }
+
 /* Listens at a port, or at any that is free if it is 0, and prints `port Q`. If that fails, ends the program. No accept of the
- * socket waits if `how` is SOCK_NONBLOCK. */
+ * socket waits if `how` is SOCK_NONBLOCK. The port may have been in use just before. The system keeps at most SOCKET_BUFFER octets each
+ * way for a connection that is accepted there, or what it allows if that is less; Linux takes twice as much memory. */
 static inline int listen_at(unsigned short port, int how) {
     struct sockaddr_in address = local_port(port);
     socklen_t n = sizeof address;
     int fd = socket(AF_INET, SOCK_STREAM | how, 0);
-    if (fd < 0 || bind(fd, (struct sockaddr *)&address, n) != 0 || listen(fd, 4096) != 0 ||
+    if (fd < 0 || set_option(fd, SO_REUSEADDR, 1) != 0 || set_option(fd, SO_SNDBUF, SOCKET_BUFFER) != 0 ||
+        set_option(fd, SO_RCVBUF, SOCKET_BUFFER) != 0 || bind(fd, (struct sockaddr *)&address, n) != 0 || listen(fd, 4096) != 0 ||
         getsockname(fd, (struct sockaddr *)&address, &n) != 0) {
         perror("listen");
         exit(1);

@@ -67,11 +67,13 @@ struct timespec {
     long tv_nsec;
 };
 
-enum { AF_UNIX = 1, AF_INET = 2, SOCK_STREAM = 1, SOCK_NONBLOCK = 04000, SOCK_CLOEXEC = 02000000, SHUT_WR = 1, SOL_SOCKET = 1, SO_REUSEADDR = 2 };
+enum { AF_UNIX = 1, AF_INET = 2, SOCK_STREAM = 1, SOCK_NONBLOCK = 04000, SOCK_CLOEXEC = 02000000, SHUT_WR = 1, SOL_SOCKET = 1 };
+enum { SO_REUSEADDR = 2, SO_SNDBUF = 7, SO_RCVBUF = 8 };
 enum { MSG_DONTWAIT = 0x40, MSG_NOSIGNAL = 0x4000, POLLIN = 1, POLLOUT = 4 };
 enum { EPOLLIN = 1, EPOLLOUT = 4, EPOLL_CTL_ADD = 1, EPOLL_CTL_DEL = 2, EPOLL_CTL_MOD = 3, EPOLL_CLOEXEC = 02000000 };
 enum { EINTR = 4, EAGAIN = 11, ENFILE = 23, EMFILE = 24, CLOCK_MONOTONIC = 1 };
 #define errno (*__errno_location())
+#define NULL ((void *)0)
 #define UINT32_MAX 0xffffffffu
 #define UINT64_MAX 0xffffffffffffffffu
 #define SIZE_MAX __SIZE_MAX__
@@ -83,6 +85,7 @@ int socket(int domain, int type, int protocol);
 int socketpair(int domain, int type, int protocol, int fds[2]);
 int bind(int fd, const struct sockaddr *address, socklen_t n);
 int listen(int fd, int backlog);
+int setsockopt(int fd, int level, int option, const void *value, socklen_t n);
 int accept(int fd, struct sockaddr *address, socklen_t *n);
 int connect(int fd, const struct sockaddr *address, socklen_t n);
 int getsockname(int fd, struct sockaddr *address, socklen_t *n);

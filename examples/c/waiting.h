@@ -14,21 +14,30 @@ enum {
  * (docs/PEERS.md). */
 static inline void pause_for_siw(void) { poll(0, 0, PAUSE); }
 
-/* Prints how far a stream is, whose peer is given up. */
-static inline void tell_progress(struct carried *carried) {
+/* Writes how far a stream is, whose peer is given up: `it is open` and so on. Returns the text. */
+static inline const char *progress_text(struct carried *carried, char *text, size_t n) {
     static const char *const lives[] = {"starting", "open", "ended"};
-    struct iwarp_progress progress;
-    uint32_t life;
+    struct iwarp_progress progress = {0};
+    uint32_t life = 0;
     uint8_t *at;
-    size_t left;
+    size_t left = 0;
     if (iwarp_state(carried->end, carried->stream, &life) != IWARP_OK || life > IWARP_STATE_ENDED ||
         iwarp_progress(carried->end, carried->stream, &progress) != IWARP_OK ||
         iwarp_buffer_at(&carried->frames, &at, &left) != IWARP_OK)
-        return;
-    printf("stream %u: nothing was heard for %d s; it is %s; %llu octets were emitted, of which %llu are not written, the next "
-           "frame has %llu, and %llu have come and had their turn\n",
-           (unsigned)carried->stream, PATIENCE, lives[life], (unsigned long long)progress.sent, (unsigned long long)left,
-           (unsigned long long)progress.due, (unsigned long long)progress.in_order);
+        return "it is closed";
+    snprintf(text, n,
+             "it is %s; %llu octets were emitted, of which %llu are not written, the next frame has %llu, and %llu have come and "
+             "had their turn",
+             lives[life], (unsigned long long)progress.sent, (unsigned long long)left, (unsigned long long)progress.due,
+             (unsigned long long)progress.in_order);
+    return text;
+}
+
+/* Prints how far a stream is, whose peer is given up. */
+static inline void tell_progress(struct carried *carried) {
+    char text[300];
+    printf("stream %u: nothing was heard for %d s; %s\n", (unsigned)carried->stream, PATIENCE,
+           progress_text(carried, text, sizeof text));
 }
 
 /* A turn of a program that has one stream: writes what is due, waits until octets come or the socket takes some, and reads.
