@@ -31,7 +31,8 @@
  * - The program, or the system for it, writes to a place that iwarp_room lent only until the place is taken back: by the next
  *   call of iwarp_room, iwarp_came, iwarp_deliver, iwarp_work, iwarp_work_on, iwarp_work_within, iwarp_work_marked, iwarp_emit,
  *   iwarp_emit_onto, iwarp_fill, iwarp_accept, iwarp_reject, iwarp_break or iwarp_close on that stream, whatever it returns, and by
- *   iwarp_free. Calls on other streams, and others on that stream, may go on meanwhile.
+ *   iwarp_free; but a refused iwarp_came (IWARP_NOT_LENT) or iwarp_close (IWARP_NOT_AT_REST) leaves it lent. Calls on other streams,
+ *   and others on that stream, may go on meanwhile.
  * - No pointer is null, even if its count is 0: pass `iwarp_octets(p)` and `iwarp_out(p)` for a `p` that may be. `octets` and
  *   `private_data` point to `n` octets that can be read, and that nothing writes during the call; `out` points to `room` octets
  *   that can be written. What the pointers of one call point to does not overlap.
@@ -73,7 +74,12 @@
 #define IWARP_H
 
 /* For a compiler without headers. */
-#if __has_include(<stddef.h>) && __has_include(<stdint.h>)
+#ifdef __has_include
+#if !__has_include(<stddef.h>) || !__has_include(<stdint.h>)
+#define IWARP_NO_HEADERS
+#endif
+#endif
+#ifndef IWARP_NO_HEADERS
 #include <stddef.h>
 #include <stdint.h>
 #else
@@ -82,6 +88,16 @@ typedef __UINT8_TYPE__ uint8_t;
 typedef __UINT32_TYPE__ uint32_t;
 typedef __INT32_TYPE__ int32_t;
 typedef __UINT64_TYPE__ uint64_t;
+#endif
+
+/* A compiler that can warns of a null pointer, and of a code that is not looked at, but for those of iwarp_break and iwarp_close, which
+ * end what is over. A program that wants no such warning defines IWARP_NO_ATTRIBUTES before it includes this header. */
+#if defined(__GNUC__) && !defined(IWARP_NO_ATTRIBUTES)
+#define IWARP_CHECKED __attribute__((warn_unused_result, nonnull))
+#define IWARP_NONNULL __attribute__((nonnull))
+#else
+#define IWARP_CHECKED
+#define IWARP_NONNULL
 #endif
 
 /* (Three functions have the name of a struct, which g++ -Wshadow would warn of.) */
@@ -95,7 +111,7 @@ extern "C" {
 #endif
 
 /* The version of this header: 10,000 for each major number, 100 for each minor one, 1 for each revision. */
-#define IWARP_VERSION 10200
+#define IWARP_VERSION 10300
 
 /* An endpoint, or none. */
 struct iwarp {
@@ -158,7 +174,7 @@ enum {
 };
 
 /* Tells the address of a text that says what a code means. The text is never freed. */
-void iwarp_text_at(int32_t code, const char **text);
+void iwarp_text_at(int32_t code, const char **text) IWARP_NONNULL;
 
 /* Returns a text that says what a code means. */
 static inline const char *iwarp_text(int32_t code) {
@@ -185,7 +201,7 @@ static inline uint8_t *iwarp_out(uint8_t *out) {
 uint32_t iwarp_version(void);
 
 /* Opens a closed handle with a new endpoint, which has no domain and no stream. */
-int32_t iwarp_new(struct iwarp *handle);
+int32_t iwarp_new(struct iwarp *handle) IWARP_CHECKED;
 
 /* How a handle is opened. What is reserved is 0, and not read. */
 struct iwarp_options {
@@ -195,13 +211,13 @@ struct iwarp_options {
 };
 
 /* As iwarp_new, with options. The struct is judged first: IWARP_BAD_STRUCT, then IWARP_BAD_BITS. */
-int32_t iwarp_new_with(struct iwarp *handle, const struct iwarp_options *options);
+int32_t iwarp_new_with(struct iwarp *handle, const struct iwarp_options *options) IWARP_CHECKED;
 
 /* Frees all that the handle has, and closes it. A closed handle stays closed, so a second call does nothing. */
-void iwarp_free(struct iwarp *handle);
+void iwarp_free(struct iwarp *handle) IWARP_NONNULL;
 
 /* Adds a protection domain: `pd` is 1 to 255. Streams reach only regions of their own domain. */
-int32_t iwarp_add_domain(struct iwarp *handle, uint32_t pd);
+int32_t iwarp_add_domain(struct iwarp *handle, uint32_t pd) IWARP_CHECKED;
 
 /* ---- buffers */
 
@@ -209,26 +225,26 @@ int32_t iwarp_add_domain(struct iwarp *handle, uint32_t pd);
  * program's own memory). They can become a region, a receive buffer or a message and come back, with nothing copied: they stay at
  * their address until they are freed, or iwarp_fill or iwarp_emit_onto is called with the buffer. The room that they take stays when
  * iwarp_buffer_truncate or iwarp_buffer_drop_front makes them fewer. */
-int32_t iwarp_buffer_new(size_t n, struct iwarp_buffer *buffer);
+int32_t iwarp_buffer_new(size_t n, struct iwarp_buffer *buffer) IWARP_CHECKED;
 
 /* Frees the buffer's octets: then it is IWARP_NO_BUFFER. A second call does nothing. */
-void iwarp_buffer_free(struct iwarp_buffer *buffer);
+void iwarp_buffer_free(struct iwarp_buffer *buffer) IWARP_NONNULL;
 
 /* Tells the address of the buffer's octets, and how many they are. With 0 octets the address is of no use. */
-int32_t iwarp_buffer_at(struct iwarp_buffer *buffer, uint8_t **at, size_t *n);
+int32_t iwarp_buffer_at(struct iwarp_buffer *buffer, uint8_t **at, size_t *n) IWARP_CHECKED;
 
 /* Keeps the first `n` octets, or all if there are no more. The memory of the others stays with the buffer, for what is put
  * behind those that are kept. */
-int32_t iwarp_buffer_truncate(struct iwarp_buffer *buffer, size_t n);
+int32_t iwarp_buffer_truncate(struct iwarp_buffer *buffer, size_t n) IWARP_CHECKED;
 
-/* Drops the first `n` octets, or all if there are no more: after a write that took a part. The others move to the front, and the
- * memory stays with the buffer. */
-int32_t iwarp_buffer_drop_front(struct iwarp_buffer *buffer, size_t n);
+/* Drops the first `n` octets, or all if there are no more: after a write that took a part. The others move to the front, all of them at
+ * each call, and the memory stays with the buffer. So have iwarp_fill append no more at once than a socket takes in a few writes. */
+int32_t iwarp_buffer_drop_front(struct iwarp_buffer *buffer, size_t n) IWARP_CHECKED;
 
 /* ---- regions */
 
 /* What a region may be used for. */
-enum {
+enum iwarp_right {
     IWARP_WRITE = 1, /* a peer's Writes are placed in it */
     IWARP_READ = 2, /* a peer's Reads are answered from it */
     IWARP_SINK = 4, /* this end's Reads are placed in it */
@@ -247,27 +263,27 @@ struct iwarp_facts {
 /* Registers a copy of the octets as a region, the first of them at tagged offset `base`. `*stag` is the STag by which
  * peers name it. */
 int32_t iwarp_register(struct iwarp *handle, uint32_t pd, uint64_t base, const uint8_t *octets, size_t n, uint32_t rights,
-                       uint32_t *stag);
+                       uint32_t *stag) IWARP_CHECKED;
 
 /* Deregisters a region, valid or not, and copies its octets to the front of `out`. From then on its STag names no
  * region. `*n` is how many octets it has, with IWARP_NO_ROOM too. */
-int32_t iwarp_deregister(struct iwarp *handle, uint32_t stag, uint8_t *out, size_t room, size_t *n);
+int32_t iwarp_deregister(struct iwarp *handle, uint32_t stag, uint8_t *out, size_t room, size_t *n) IWARP_CHECKED;
 
 /* Registers the buffer's octets themselves, as iwarp_register does a copy: nothing is copied, and the buffer has no octets
  * then. If it is refused, the buffer keeps them. */
 int32_t iwarp_register_buffer(struct iwarp *handle, uint32_t pd, uint64_t base, struct iwarp_buffer *buffer, uint32_t rights,
-                              uint32_t *stag);
+                              uint32_t *stag) IWARP_CHECKED;
 
 /* Registers a copy of the octets for one stream: the region is in the stream's domain, and to the peers of other streams its
  * STag is as one of another domain (RFC 5042 6.1.1). When the stream is closed it becomes invalid, and stays registered.
  * IWARP_ENDED: the stream has ended. */
 int32_t iwarp_register_for(struct iwarp *handle, uint32_t stream, uint64_t base, const uint8_t *octets, size_t n,
-                           uint32_t rights, uint32_t *stag);
+                           uint32_t rights, uint32_t *stag) IWARP_CHECKED;
 
 /* Registers the buffer's octets themselves for one stream, as iwarp_register_for does a copy, and takes them as
  * iwarp_register_buffer does. */
 int32_t iwarp_register_buffer_for(struct iwarp *handle, uint32_t stream, uint64_t base, struct iwarp_buffer *buffer,
-                                  uint32_t rights, uint32_t *stag);
+                                  uint32_t rights, uint32_t *stag) IWARP_CHECKED;
 
 /* How a region is registered. */
 enum {
@@ -293,11 +309,12 @@ struct iwarp_registration {
  * The first such region of a domain may take the memory for all its slots, 24,576 octets. Behind IWARP_IS_CLOSED the struct is
  * judged first: IWARP_BAD_STRUCT, then IWARP_BAD_BITS, for the flags and for the rights. */
 int32_t iwarp_register_as(struct iwarp *handle, const struct iwarp_registration *registration, const uint8_t *octets, size_t n,
-                          uint32_t *stag);
+                          uint32_t *stag) IWARP_CHECKED;
 
-/* Registers the buffer's octets themselves, as iwarp_register_as does a copy, and takes them as iwarp_register_buffer does. */
+/* Registers the buffer's octets themselves, as iwarp_register_as does a copy, and takes them as iwarp_register_buffer does.
+ * IWARP_BUFFER_MISSING comes behind IWARP_IS_CLOSED and before the struct is judged. */
 int32_t iwarp_register_buffer_as(struct iwarp *handle, const struct iwarp_registration *registration,
-                                 struct iwarp_buffer *buffer, uint32_t *stag);
+                                 struct iwarp_buffer *buffer, uint32_t *stag) IWARP_CHECKED;
 
 /* Memory that the program keeps: mapped from a file, of large pages, or aligned for O_DIRECT. A struct of zeroes has none. */
 struct iwarp_memory {
@@ -312,35 +329,35 @@ struct iwarp_memory {
  * region is deregistered or dropped, or the handle is freed. Until then it reads and writes it only as iwarp_region_at says, in no
  * other thread or process and by no device while a call on the handle runs, and registers no octet of it twice. */
 int32_t iwarp_register_memory(struct iwarp *handle, const struct iwarp_registration *registration, struct iwarp_memory *memory,
-                              uint32_t *stag);
+                              uint32_t *stag) IWARP_CHECKED;
 
 /* Deregisters a region, valid or not, whose memory the program keeps, and tells in `memory` where it is; what stood in that struct is
  * forgotten. IWARP_OTHER_MEMORY: the region's octets are a buffer's, or a copy. */
-int32_t iwarp_deregister_memory(struct iwarp *handle, uint32_t stag, struct iwarp_memory *memory);
+int32_t iwarp_deregister_memory(struct iwarp *handle, uint32_t stag, struct iwarp_memory *memory) IWARP_CHECKED;
 
 /* Deregisters a region, valid or not: its octets are the buffer's then, with nothing copied, and those that the buffer had
  * are freed. `buffer` was made, with 0 octets for instance, or is the one that the region was registered from. IWARP_OTHER_MEMORY:
  * the program keeps the region's memory (iwarp_deregister_memory). */
-int32_t iwarp_deregister_buffer(struct iwarp *handle, uint32_t stag, struct iwarp_buffer *buffer);
+int32_t iwarp_deregister_buffer(struct iwarp *handle, uint32_t stag, struct iwarp_buffer *buffer) IWARP_CHECKED;
 
 /* Deregisters a region, valid or not, and frees its octets; memory that the program keeps is not freed. */
-int32_t iwarp_drop_region(struct iwarp *handle, uint32_t stag);
+int32_t iwarp_drop_region(struct iwarp *handle, uint32_t stag) IWARP_CHECKED;
 
 /* Tells the address of a region's octets, valid or not, and how many they are; it is null if there are none. They stay there
  * until the region is deregistered. */
-int32_t iwarp_region_at(struct iwarp *handle, uint32_t stag, uint8_t **at, size_t *n);
+int32_t iwarp_region_at(struct iwarp *handle, uint32_t stag, uint8_t **at, size_t *n) IWARP_CHECKED;
 
 /* Makes a region invalid: peers can no longer use it. It stays registered. */
-int32_t iwarp_invalidate(struct iwarp *handle, uint32_t stag);
+int32_t iwarp_invalidate(struct iwarp *handle, uint32_t stag) IWARP_CHECKED;
 
 /* Writes octets into a region, valid or not, at tagged offset `to`. */
-int32_t iwarp_store(struct iwarp *handle, uint32_t stag, uint64_t to, const uint8_t *octets, size_t n);
+int32_t iwarp_store(struct iwarp *handle, uint32_t stag, uint64_t to, const uint8_t *octets, size_t n) IWARP_CHECKED;
 
 /* Reads `n` octets of a region, valid or not, at tagged offset `to`. */
-int32_t iwarp_load(struct iwarp *handle, uint32_t stag, uint64_t to, uint8_t *out, size_t n);
+int32_t iwarp_load(struct iwarp *handle, uint32_t stag, uint64_t to, uint8_t *out, size_t n) IWARP_CHECKED;
 
 /* Writes the facts of a region, valid or not. */
-int32_t iwarp_facts(struct iwarp *handle, uint32_t stag, struct iwarp_facts *facts);
+int32_t iwarp_facts(struct iwarp *handle, uint32_t stag, struct iwarp_facts *facts) IWARP_CHECKED;
 
 /* The facts of a region, and what later versions add to them. What is reserved becomes 0. */
 struct iwarp_region {
@@ -349,8 +366,9 @@ struct iwarp_region {
     uint64_t reserved[4];
 };
 
-/* As iwarp_facts, into a struct that can grow. */
-int32_t iwarp_region_facts(struct iwarp *handle, uint32_t stag, struct iwarp_region *region);
+/* As iwarp_facts, into a struct that can grow. Behind IWARP_IS_CLOSED the struct is judged first: IWARP_BAD_STRUCT, then
+ * IWARP_NO_REGION. */
+int32_t iwarp_region_facts(struct iwarp *handle, uint32_t stag, struct iwarp_region *region) IWARP_CHECKED;
 
 /* ---- streams */
 
@@ -389,26 +407,26 @@ enum {
  * no event tells of it. A responder with IWARP_ENHANCED takes such a Request as well. IWARP_BAD_BITS is returned if
  * another role has IWARP_PEER_TO_PEER, or if it comes without IWARP_ENHANCED. */
 int32_t iwarp_open(struct iwarp *handle, uint32_t stream, uint32_t pd, uint32_t role, uint32_t options,
-                   const uint8_t *private_data, size_t n);
+                   const uint8_t *private_data, size_t n) IWARP_CHECKED;
 
 /* As iwarp_open, but the library picks the number: `*stream`. The numbers count from 64 up, each is given once, and as many
  * streams may be open as memory has room for. For connections without end: open each stream by this call, and close it by
  * iwarp_close. */
 int32_t iwarp_open_next(struct iwarp *handle, uint32_t pd, uint32_t role, uint32_t options, const uint8_t *private_data,
-                        size_t n, uint32_t *stream);
+                        size_t n, uint32_t *stream) IWARP_CHECKED;
 
 /* Accepts the pending MPA Request, with this private data in the Reply. `*agreed` is a sum of IWARP_SENDS_MARKERS and
  * so on. Messages may be posted from then on; but behind the Reply a responder emits nothing before the initiator's first frame had
  * its turn (RFC 5044 7.1.2). */
-int32_t iwarp_accept(struct iwarp *handle, uint32_t stream, const uint8_t *private_data, size_t n, uint32_t *agreed);
+int32_t iwarp_accept(struct iwarp *handle, uint32_t stream, const uint8_t *private_data, size_t n, uint32_t *agreed) IWARP_CHECKED;
 
 /* Rejects the pending MPA Request, with this private data in the Reply. The stream has then ended; the Reply is still
  * to be emitted. */
-int32_t iwarp_reject(struct iwarp *handle, uint32_t stream, const uint8_t *private_data, size_t n);
+int32_t iwarp_reject(struct iwarp *handle, uint32_t stream, const uint8_t *private_data, size_t n) IWARP_CHECKED;
 
 /* Copies the private data of the peer's start-up frame to the front of `out`: at most 512 octets, none before that
  * frame was read. `*n` is how many octets they are, with IWARP_NO_ROOM too. */
-int32_t iwarp_private(struct iwarp *handle, uint32_t stream, uint8_t *out, size_t room, size_t *n);
+int32_t iwarp_private(struct iwarp *handle, uint32_t stream, uint8_t *out, size_t room, size_t *n) IWARP_CHECKED;
 
 /* What the peer told in its start-up frame. Before that was read, and on a preset stream, all fields are 0. */
 struct iwarp_told {
@@ -425,7 +443,7 @@ struct iwarp_told {
 };
 
 /* Writes what the peer told in its start-up frame, once that was read: at IWARP_ASKED, and from IWARP_OPENED on. */
-int32_t iwarp_told(struct iwarp *handle, uint32_t stream, struct iwarp_told *told);
+int32_t iwarp_told(struct iwarp *handle, uint32_t stream, struct iwarp_told *told) IWARP_CHECKED;
 
 /* What the peer told in its start-up frame, and what later versions add to that. What is reserved becomes 0. */
 struct iwarp_peer {
@@ -434,8 +452,9 @@ struct iwarp_peer {
     uint64_t reserved[4];
 };
 
-/* As iwarp_told, into a struct that can grow. */
-int32_t iwarp_peer_facts(struct iwarp *handle, uint32_t stream, struct iwarp_peer *peer);
+/* As iwarp_told, into a struct that can grow. Behind IWARP_IS_CLOSED the struct is judged first: IWARP_BAD_STRUCT, then
+ * IWARP_NO_SUCH_STREAM. */
+int32_t iwarp_peer_facts(struct iwarp *handle, uint32_t stream, struct iwarp_peer *peer) IWARP_CHECKED;
 
 /* How far a stream is in its life. */
 enum {
@@ -445,20 +464,20 @@ enum {
 };
 
 /* Tells whether a stream is starting, is open or has ended: IWARP_STATE_STARTING and so on. */
-int32_t iwarp_state(struct iwarp *handle, uint32_t stream, uint32_t *state);
+int32_t iwarp_state(struct iwarp *handle, uint32_t stream, uint32_t *state) IWARP_CHECKED;
 
 /* Reports that the connection broke or closed: the stream has ended, and nothing more is emitted, not even a pending
  * Terminate. */
-int32_t iwarp_break(struct iwarp *handle, uint32_t stream);
+int32_t iwarp_break(struct iwarp *handle, uint32_t stream) IWARP_NONNULL;
 
 /* Forgets a stream and frees its memory. The stream must be at rest: it has ended, iwarp_work reports IWARP_IDLE, and
  * iwarp_emit IWARP_NOTHING; iwarp_break drops what is left to emit. What it handed back and was not fetched is freed. Its
  * number stays taken: a later call on it returns IWARP_NO_SUCH_STREAM. The tables in which streams are found keep room for as many
  * as were open at once, some 125 octets for each, until iwarp_free. */
-int32_t iwarp_close(struct iwarp *handle, uint32_t stream);
+int32_t iwarp_close(struct iwarp *handle, uint32_t stream) IWARP_NONNULL;
 
 /* Sets the maximum ULPDU of the frames that a stream emits from then on, 128 to 64,512 octets. It is 1,400 at first. */
-int32_t iwarp_set_mulpdu(struct iwarp *handle, uint32_t stream, uint32_t size);
+int32_t iwarp_set_mulpdu(struct iwarp *handle, uint32_t stream, uint32_t size) IWARP_CHECKED;
 
 /* ---- what is posted */
 
@@ -472,11 +491,11 @@ enum {
  * with the latter. `token`, of each call that posts a message, is any number of the program's: the event that tells that
  * this message is done or flushed has it. */
 int32_t iwarp_post_send(struct iwarp *handle, uint32_t stream, const uint8_t *octets, size_t n, uint32_t flags, uint32_t stag,
-                        uint64_t token);
+                        uint64_t token) IWARP_CHECKED;
 
 /* Posts a Write of a copy of the octets, to a region of the peer at tagged offset `to`. */
 int32_t iwarp_post_write(struct iwarp *handle, uint32_t stream, uint32_t stag, uint64_t to, const uint8_t *octets, size_t n,
-                         uint64_t token);
+                         uint64_t token) IWARP_CHECKED;
 
 /* Posts a Send of the buffer's octets themselves, as iwarp_post_send does of a copy: nothing is copied, and the buffer has none
  * then. It keeps memory for as many octets, which is not written, for when they come back. Once IWARP_DONE or IWARP_FLUSHED tells
@@ -484,19 +503,20 @@ int32_t iwarp_post_write(struct iwarp *handle, uint32_t stream, uint32_t stag, u
  * IWARP_NO_MEMORY may it have none: the library had no memory to give them back. Then they wait at the stream, in place of what
  * iwarp_fetch_sent would have moved, and that call moves them into a buffer. */
 int32_t iwarp_post_send_buffer(struct iwarp *handle, uint32_t stream, struct iwarp_buffer *buffer, uint32_t flags, uint32_t stag,
-                               uint64_t token);
+                               uint64_t token) IWARP_CHECKED;
 
 /* Posts a Write of the buffer's octets themselves, as iwarp_post_write does of a copy, and takes them as iwarp_post_send_buffer
  * does. */
 int32_t iwarp_post_write_buffer(struct iwarp *handle, uint32_t stream, uint32_t stag, uint64_t to, struct iwarp_buffer *buffer,
-                                uint64_t token);
+                                uint64_t token) IWARP_CHECKED;
 
 /* Posts a Read of `size` octets, from a region of the peer into one of this end. */
 int32_t iwarp_post_read(struct iwarp *handle, uint32_t stream, uint32_t sink, uint64_t sink_to, uint32_t size,
-                        uint32_t source, uint64_t source_to, uint64_t token);
+                        uint32_t source, uint64_t source_to, uint64_t token) IWARP_CHECKED;
 
-/* What is posted, and what an event tells of. */
-enum { IWARP_MESSAGE_WRITE = 1, IWARP_MESSAGE_SEND = 2, IWARP_MESSAGE_READ = 3 };
+/* What is posted, and what an event tells of. (IWARP_WRITE and IWARP_READ are rights, with other numbers: iwarp_posting_of takes none
+ * of them.) */
+enum iwarp_message { IWARP_MESSAGE_WRITE = 1, IWARP_MESSAGE_SEND = 2, IWARP_MESSAGE_READ = 3 };
 
 /* A message to post. Fields that its kind does not need are not read; nor is what is reserved, which is 0. */
 struct iwarp_posting {
@@ -512,55 +532,63 @@ struct iwarp_posting {
     uint64_t reserved[4];
 };
 
+/* Returns a struct that is cleared but for its size and this kind. A compiler that tells enums apart warns if it is given a right; one
+ * of C++ refuses it. */
+static inline struct iwarp_posting iwarp_posting_of(enum iwarp_message kind) {
+    struct iwarp_posting posting = {sizeof(struct iwarp_posting), (uint32_t)kind, 0, 0, 0, 0, 0, 0, 0, {0, 0, 0, 0}};
+    return posting;
+}
+
 /* Posts the message that a struct describes, as iwarp_post_send, iwarp_post_write or iwarp_post_read does: a Send or a Write of a
  * copy of the octets, or a Read, which does not use them. Behind IWARP_IS_CLOSED the struct is judged first: IWARP_BAD_STRUCT, then
  * IWARP_BAD_BITS. */
-int32_t iwarp_post(struct iwarp *handle, uint32_t stream, const struct iwarp_posting *posting, const uint8_t *octets, size_t n);
+int32_t iwarp_post(struct iwarp *handle, uint32_t stream, const struct iwarp_posting *posting, const uint8_t *octets, size_t n) IWARP_CHECKED;
 
 /* Posts the Send or Write that a struct describes of the buffer's octets themselves, as iwarp_post_send_buffer or
- * iwarp_post_write_buffer does, with the same exception. IWARP_BAD_STRUCT also means that it describes a Read, which has no octets. */
-int32_t iwarp_post_buffer(struct iwarp *handle, uint32_t stream, const struct iwarp_posting *posting, struct iwarp_buffer *buffer);
+ * iwarp_post_write_buffer does, with the same exception. The first that applies is told of IWARP_IS_CLOSED, IWARP_BUFFER_MISSING,
+ * IWARP_BAD_STRUCT, IWARP_BAD_BITS, and IWARP_BAD_STRUCT again for a Read, which has no octets; then those of the stream. */
+int32_t iwarp_post_buffer(struct iwarp *handle, uint32_t stream, const struct iwarp_posting *posting, struct iwarp_buffer *buffer) IWARP_CHECKED;
 
 /* Posts a receive buffer of `n` octets, at most 16,777,216. A Send that finds no buffer ends the stream. */
-int32_t iwarp_post_recv(struct iwarp *handle, uint32_t stream, size_t n);
+int32_t iwarp_post_recv(struct iwarp *handle, uint32_t stream, size_t n) IWARP_CHECKED;
 
 /* Posts the buffer's octets themselves as a receive buffer, at most 16,777,216: nothing is copied, and the buffer has none
  * then. If it is refused, the buffer keeps them. */
-int32_t iwarp_post_recv_buffer(struct iwarp *handle, uint32_t stream, struct iwarp_buffer *buffer);
+int32_t iwarp_post_recv_buffer(struct iwarp *handle, uint32_t stream, struct iwarp_buffer *buffer) IWARP_CHECKED;
 
 /* ---- receive buffers that the streams of a domain share */
 
 /* Gives the domain an empty pool of receive buffers. */
-int32_t iwarp_share(struct iwarp *handle, uint32_t pd);
+int32_t iwarp_share(struct iwarp *handle, uint32_t pd) IWARP_CHECKED;
 
 /* Posts a receive buffer of `n` octets, at most 16,777,216, to the domain's pool, after the others. A pool holds at most
  * 1,024. A Send takes the oldest buffer when any of its segments is placed first. A Send that finds the pool empty, or the
  * oldest buffer too short, ends its own stream only. */
-int32_t iwarp_post_shared(struct iwarp *handle, uint32_t pd, size_t n);
+int32_t iwarp_post_shared(struct iwarp *handle, uint32_t pd, size_t n) IWARP_CHECKED;
 
 /* Posts the buffer's octets themselves to the domain's pool, as iwarp_post_recv_buffer does to a stream. */
-int32_t iwarp_post_shared_buffer(struct iwarp *handle, uint32_t pd, struct iwarp_buffer *buffer);
+int32_t iwarp_post_shared_buffer(struct iwarp *handle, uint32_t pd, struct iwarp_buffer *buffer) IWARP_CHECKED;
 
 /* Takes the oldest buffer out of the domain's pool. If there is one, `*found` is 1, and its octets are the buffer's, whose own
  * are freed; if the pool has none, `*found` is 0 and the buffer keeps its octets. */
-int32_t iwarp_take_shared_buffer(struct iwarp *handle, uint32_t pd, struct iwarp_buffer *buffer, uint32_t *found);
+int32_t iwarp_take_shared_buffer(struct iwarp *handle, uint32_t pd, struct iwarp_buffer *buffer, uint32_t *found) IWARP_CHECKED;
 
 /* As iwarp_open, but the stream takes its receive buffers from its domain's pool, and iwarp_post_recv returns
  * IWARP_SHARED. A buffer that the stream took comes back with IWARP_RECEIVED or IWARP_FLUSHED_RECV. It does not return
  * to the pool: the program posts another. */
 int32_t iwarp_open_shared(struct iwarp *handle, uint32_t stream, uint32_t pd, uint32_t role, uint32_t options,
-                          const uint8_t *private_data, size_t n);
+                          const uint8_t *private_data, size_t n) IWARP_CHECKED;
 
 /* As iwarp_open_shared, but the library picks the number, as iwarp_open_next does. */
 int32_t iwarp_open_shared_next(struct iwarp *handle, uint32_t pd, uint32_t role, uint32_t options,
-                               const uint8_t *private_data, size_t n, uint32_t *stream);
+                               const uint8_t *private_data, size_t n, uint32_t *stream) IWARP_CHECKED;
 
 /* ---- delivery, work and emission */
 
 /* Sets the sequence number of the peer's first octet. It is 0 if never set. Of several calls before the first delivery
  * the last counts; after it the call returns IWARP_LATE. A program that sees TCP's own numbers sets the one that
  * follows the number of the peer's SYN. A program that reads a socket does not need this call. */
-int32_t iwarp_first_number(struct iwarp *handle, uint32_t stream, uint32_t number);
+int32_t iwarp_first_number(struct iwarp *handle, uint32_t stream, uint32_t number) IWARP_CHECKED;
 
 /* Takes octets that came, in any order; `number` is the sequence number of the first of them. A program that reads a
  * socket adds up the lengths of its reads in a uint32_t: the sum is the number for the next read. Numbers wrap, as
@@ -570,7 +598,7 @@ int32_t iwarp_first_number(struct iwarp *handle, uint32_t stream, uint32_t numbe
  * more than 1,024 islands (runs of octets with a gap before them), or because the stream has ended. If the
  * octets come from a socket, deliver at most 131,072 at a time, and call iwarp_work_on until it reports IWARP_IDLE in
  * between: then those of an open stream are dropped only if it has ended. */
-int32_t iwarp_deliver(struct iwarp *handle, uint32_t stream, uint32_t number, const uint8_t *octets, size_t n, uint32_t *kept);
+int32_t iwarp_deliver(struct iwarp *handle, uint32_t stream, uint32_t number, const uint8_t *octets, size_t n, uint32_t *kept) IWARP_CHECKED;
 
 /* Lends the place past the last octet that came, so that a program reads a socket to where the octets are to stand. `*at` is
  * its address, and `*n` for how many octets it has room: at most `want`, and at most 65,536. With `want` 0 none are lent: a read
@@ -579,18 +607,20 @@ int32_t iwarp_deliver(struct iwarp *handle, uint32_t stream, uint32_t number, co
  * taken back. IWARP_WINDOW_FULL: call iwarp_work_on until it reports IWARP_IDLE, which makes room, unless the peer's Request has
  * come: then nothing makes room before iwarp_accept or iwarp_reject. A stream that has ended lends a place as well, of at most 4,096
  * octets, the same to all such streams; what comes is dropped. */
-int32_t iwarp_room(struct iwarp *handle, uint32_t stream, size_t want, uint8_t **at, size_t *n);
+int32_t iwarp_room(struct iwarp *handle, uint32_t stream, size_t want, uint8_t **at, size_t *n) IWARP_CHECKED;
 
 /* Tells the library that the program read `n` octets to the front of the place that is lent at this stream. They come right behind
  * the last octet that came, so no sequence number is needed. None of them is dropped, unless the stream has ended. The place is then
  * no longer lent. IWARP_NOT_LENT: `n` is 0, or more than are lent; if the place was taken back none are, and what was written there
  * is lost. IWARP_NO_MEMORY stands in the contract alone: what is lent has its memory. */
-int32_t iwarp_came(struct iwarp *handle, uint32_t stream, size_t n);
+int32_t iwarp_came(struct iwarp *handle, uint32_t stream, size_t n) IWARP_CHECKED;
 
 /* What a step of work did. */
 enum {
     IWARP_IDLE = 0, /* nothing: there is nothing to do until more octets come or more is emitted */
-    IWARP_DONE = 1, /* the oldest posted message is done: `message`, `token` */
+    IWARP_DONE = 1, /* the oldest posted message is done: `message`, `token`. A Write or Send is once its last frame was emitted: its
+                     * octets are no longer needed, but may not have been written to the socket, or have come. A Read is once its octets
+                     * are in its region */
     IWARP_FLUSHED = 2, /* the stream has ended: the oldest posted message is given up: `message`, `token`; a later one may be done */
     IWARP_FLUSHED_RECV = 3, /* the stream has ended: its oldest receive buffer, of `len` octets, can be fetched */
     IWARP_ASKED = 4, /* the peer's MPA Request came: accept or reject it; iwarp_told tells what it asks for */
@@ -598,7 +628,7 @@ enum {
     IWARP_CLOSED_BY_PEER = 6, /* the peer's start-up frame has ended the stream: `code`, IWARP_BAD_KEY and so on */
     IWARP_PLACED = 7, /* `len` octets were placed in region `stag` at `to`, by `right`: IWARP_WRITE or IWARP_SINK. With 0 octets
                        * nothing is checked or touched, and there may be no such region */
-    IWARP_BUFFERED = 8, /* `len` octets of Send `msn` were placed in its buffer, at offset `mo` */
+    IWARP_BUFFERED = 8, /* `len` octets of Send `msn` were placed in its buffer, at offset `mo`: `flags`, IWARP_ABOVE_MARK */
     IWARP_REQUESTED = 9, /* the peer asked to read `len` octets of region `stag` at `to` */
     IWARP_PASSED = 10, /* a frame had its turn */
     IWARP_RECEIVED = 11, /* a Send of `len` octets can be fetched: `flags`, IWARP_SOLICITED and IWARP_INVALIDATES with `stag` */
@@ -606,6 +636,9 @@ enum {
     IWARP_FAULT = 13, /* the stream has ended by a fault of the peer's, `layer`, `error`, `code` */
     IWARP_TRIED = 14 /* the frame at stream place `to` was judged before its turn, and is left until its turn */
 };
+
+/* By this step the stream came to have more buffers of its pool bound than the mark: of iwarp_work_marked alone, from 1.3 on. */
+enum { IWARP_ABOVE_MARK = 1 };
 
 /* What is wrong with a start-up frame. */
 enum { IWARP_BAD_KEY = 1, IWARP_BAD_REVISION = 2, IWARP_BAD_LENGTH = 3, IWARP_REJECTED = 4 };
@@ -633,13 +666,13 @@ struct iwarp_event {
  * and after iwarp_break. Get a message or buffer that it reports with iwarp_fetch or iwarp_fetch_buffer, before the next one is
  * reported on this stream: then that one takes its place. Get the octets of a message that was posted from a buffer with
  * iwarp_fetch_sent, before the next IWARP_DONE or IWARP_FLUSHED on this stream. */
-int32_t iwarp_work(struct iwarp *handle, uint32_t stream, struct iwarp_event *event);
+int32_t iwarp_work(struct iwarp *handle, uint32_t stream, struct iwarp_event *event) IWARP_CHECKED;
 
 /* Calls iwarp_work as long as it returns IWARP_OK and reports IWARP_PLACED, IWARP_BUFFERED, IWARP_REQUESTED,
  * IWARP_PASSED or IWARP_TRIED, at most 4,096 times, and returns and reports what the last call did. So it reports what
  * the program has to act on, IWARP_IDLE, or, after 4,096 steps, one of those five. If a call is refused, the steps
  * before it stay done. */
-int32_t iwarp_work_on(struct iwarp *handle, uint32_t stream, struct iwarp_event *event);
+int32_t iwarp_work_on(struct iwarp *handle, uint32_t stream, struct iwarp_event *event) IWARP_CHECKED;
 
 /* As iwarp_work_on, but a step is lent the pool of the stream's domain only while the stream has fewer than `share` of its buffers
  * bound, so that a peer takes no more than its share from the others (RFC 5042 6.4.3.1). A Send that would bind one more ends the
@@ -648,13 +681,21 @@ int32_t iwarp_work_on(struct iwarp *handle, uint32_t stream, struct iwarp_event 
  * share be as many as the Sends that the peer may have under way. iwarp_progress tells how many are bound. While a pool's buffers and
  * those that are bound are together as many as the shares of all its streams, a stream with fewer than its share bound finds one. A
  * stream with receive buffers of its own does as by iwarp_work_on. */
-int32_t iwarp_work_within(struct iwarp *handle, uint32_t stream, size_t share, struct iwarp_event *event);
+int32_t iwarp_work_within(struct iwarp *handle, uint32_t stream, size_t share, struct iwarp_event *event) IWARP_CHECKED;
 
-/* How many buffers of its domain's pool a stream may take, and from how many on it is told. What is reserved is not read; it is 0. */
+/* Which limits count. */
+enum {
+    IWARP_HAS_SHARE = 1,
+    IWARP_HAS_MARK = 2
+};
+
+/* How many buffers of its domain's pool a stream may take, and from how many on it is told. What is reserved is not read; it is 0. With
+ * no flag the limits that are not 0 count: so a cleared struct sets none. */
 struct iwarp_limits {
     size_t size; /* sizeof(struct iwarp_limits) */
-    size_t share; /* the share, as iwarp_work_within has it; SIZE_MAX: none */
-    size_t mark; /* the high-water mark; SIZE_MAX: none */
+    size_t share; /* the share, as iwarp_work_within has it; SIZE_MAX: none; with IWARP_HAS_SHARE also 0: no buffer at all */
+    size_t mark; /* the high-water mark; SIZE_MAX: none; with IWARP_HAS_MARK also 0: the first buffer is told */
+    uint64_t flags; /* a sum of IWARP_HAS_SHARE and IWARP_HAS_MARK: these limits count, and no other; or 0 */
     uint64_t reserved[4];
 };
 
@@ -662,20 +703,22 @@ struct iwarp_limits {
  * of the pool's buffers bound: the high-water notification of RFC 5042 6.4.3.1. It reports IWARP_BUFFERED then, once, and again only
  * after the stream had `mark` or fewer bound. So a program can end the stream (iwarp_break), or post more buffers, before other
  * streams find the pool empty. iwarp_work_on and iwarp_work_within pass over that step: work at the stream by this call alone.
- * iwarp_progress tells how many are bound: IWARP_BUFFERED may also come after 4,096 steps, as by iwarp_work_on. A program that sets no
- * share gives SIZE_MAX as the share, one that sets no mark SIZE_MAX as the mark. IWARP_BAD_STRUCT, which comes behind IWARP_IS_CLOSED
- * and before all else, means that the struct is shorter than here: then no step is done. */
-int32_t iwarp_work_marked(struct iwarp *handle, uint32_t stream, const struct iwarp_limits *limits, struct iwarp_event *event);
+ * iwarp_progress tells how many are bound: IWARP_BUFFERED may also come after 4,096 steps, as by iwarp_work_on, without
+ * IWARP_ABOVE_MARK then. Behind IWARP_IS_CLOSED the struct is judged first: IWARP_BAD_STRUCT, then IWARP_BAD_BITS; then no step is done.
+ *
+ * In 1.2 the struct had 56 octets and no flags. Of such a struct both limits count, 0 too: a share of 0 ends the stream at its first
+ * Send. A library of 1.2 takes any struct so: a program that is to run with it gives SIZE_MAX for what it does not set. */
+int32_t iwarp_work_marked(struct iwarp *handle, uint32_t stream, const struct iwarp_limits *limits, struct iwarp_event *event) IWARP_CHECKED;
 
 /* Copies the message or buffer that was reported last on this stream to the front of `out`, and forgets it. `*n` is how many
  * octets it has, with IWARP_NO_ROOM too; 0 if there is none. */
-int32_t iwarp_fetch(struct iwarp *handle, uint32_t stream, uint8_t *out, size_t room, size_t *n);
+int32_t iwarp_fetch(struct iwarp *handle, uint32_t stream, uint8_t *out, size_t room, size_t *n) IWARP_CHECKED;
 
 /* Moves into the buffer what iwarp_fetch would copy, and forgets it: the whole receive buffer, as it was posted, of which the
  * first `*n` octets are the message, or all if it was flushed. The octets that the buffer had are freed. If nothing was told,
  * it has none then, and `*n` is 0. A program that posts it again (iwarp_post_recv_buffer) has one buffer for each Send that
  * it awaits, and none is made or cleared for each message. */
-int32_t iwarp_fetch_buffer(struct iwarp *handle, uint32_t stream, struct iwarp_buffer *buffer, size_t *n);
+int32_t iwarp_fetch_buffer(struct iwarp *handle, uint32_t stream, struct iwarp_buffer *buffer, size_t *n) IWARP_CHECKED;
 
 /* Moves into the buffer the octets of the message that IWARP_DONE or IWARP_FLUSHED told of last on this stream, if it was posted
  * from a buffer, and forgets them: the same octets, whole. The octets that the buffer had are freed. If that message was not
@@ -684,7 +727,7 @@ int32_t iwarp_fetch_buffer(struct iwarp *handle, uint32_t stream, struct iwarp_b
  * address, and none is written: fill them there and post the buffer again. If instead they become a region or a receive buffer,
  * or iwarp_fill or iwarp_emit_onto is called with the buffer, the library first rewrites all of them in place, once, which takes
  * longer than a copy: so keep buffers for messages apart from those for regions and for frames. */
-int32_t iwarp_fetch_sent(struct iwarp *handle, uint32_t stream, struct iwarp_buffer *buffer);
+int32_t iwarp_fetch_sent(struct iwarp *handle, uint32_t stream, struct iwarp_buffer *buffer) IWARP_CHECKED;
 
 /* What a call of iwarp_emit did. */
 enum {
@@ -711,18 +754,19 @@ struct iwarp_emission {
 /* Emits the next frame of a stream to the front of `out`. Write it to the stream's connection, whole and in order. Call
  * it until it reports IWARP_NOTHING; after IWARP_DENIED a Terminate is due. `*n` is how many octets the frame has, with
  * IWARP_NO_ROOM and IWARP_NO_MEMORY too: then nothing else has changed. 66,000 octets are enough for any frame. */
-int32_t iwarp_emit(struct iwarp *handle, uint32_t stream, uint8_t *out, size_t room, size_t *n, struct iwarp_emission *emission);
+int32_t iwarp_emit(struct iwarp *handle, uint32_t stream, uint8_t *out, size_t room, size_t *n, struct iwarp_emission *emission) IWARP_CHECKED;
 
 /* Emits the next frame of a stream behind the octets of a buffer, so that several frames can be written by one call. Once
  * they are written, iwarp_buffer_truncate with 0 leaves the memory for the next. The buffer's octets may stand at another
  * address then, also if the call returns IWARP_NO_MEMORY. That comes only if the buffer has no room for what is due, or a Read is
  * begun while none is outstanding. */
-int32_t iwarp_emit_onto(struct iwarp *handle, uint32_t stream, struct iwarp_buffer *buffer, struct iwarp_emission *emission);
+int32_t iwarp_emit_onto(struct iwarp *handle, uint32_t stream, struct iwarp_buffer *buffer, struct iwarp_emission *emission) IWARP_CHECKED;
 
 /* Where a call of iwarp_fill stopped. */
 enum {
     IWARP_FILL_ALL = 0, /* nothing more is due */
-    IWARP_FILL_MORE = 1, /* frames were appended, and more may be due: one more would be too much, or there is no memory for one */
+    IWARP_FILL_MORE = 1, /* frames were appended, and more may be due: one more would be too much, or there is no memory for one; or the
+                          * first has more than `most` octets, and nothing may be due behind it */
     IWARP_FILL_DENIED = 2 /* the peer may not read what is due, and the stream has ended by a fault, `layer`, `error`, `code` */
 };
 
@@ -745,11 +789,11 @@ struct iwarp_filling {
  * buffer's octets may stand at another address. It is the first that applies of IWARP_IS_CLOSED, IWARP_BUFFER_MISSING,
  * IWARP_NO_SUCH_STREAM, IWARP_TOO_FAR and IWARP_NO_MEMORY; the last comes only if no frame was appended, and the buffer has no
  * room for the first, or that begins a Read while none is outstanding. */
-int32_t iwarp_fill(struct iwarp *handle, uint32_t stream, size_t most, struct iwarp_buffer *buffer, struct iwarp_filling *filling);
+int32_t iwarp_fill(struct iwarp *handle, uint32_t stream, size_t most, struct iwarp_buffer *buffer, struct iwarp_filling *filling) IWARP_CHECKED;
 
 /* Tells whether iwarp_emit has anything to report: `*wants` is 0 if it would report IWARP_NOTHING, else 1. A program waits for
  * its socket to be writable if it is 1, or if some of what was emitted is not yet written. */
-int32_t iwarp_wants_write(struct iwarp *handle, uint32_t stream, uint32_t *wants);
+int32_t iwarp_wants_write(struct iwarp *handle, uint32_t stream, uint32_t *wants) IWARP_CHECKED;
 
 /* How far a stream is, in octets, and how often it took a path that costs more than others and does not end it (RFC 5042 6.4.4). What
  * is reserved becomes 0. */
@@ -765,7 +809,7 @@ struct iwarp_progress {
 
 /* Tells how far a stream is. Whether to call iwarp_emit is told by iwarp_wants_write: `due` is 0 too if IWARP_DENIED is to be
  * reported. */
-int32_t iwarp_progress(struct iwarp *handle, uint32_t stream, struct iwarp_progress *progress);
+int32_t iwarp_progress(struct iwarp *handle, uint32_t stream, struct iwarp_progress *progress) IWARP_CHECKED;
 
 /* ---- faults: why a stream ended, as the numbers of a Terminate */
 
@@ -838,7 +882,7 @@ enum {
 
 /* Tells the address of a text that says, with the names of the RFCs, what a fault means. The three numbers are those of
  * an event or an emission. The text is never freed. */
-void iwarp_fault_text_at(uint32_t layer, uint32_t error, uint32_t code, const char **text);
+void iwarp_fault_text_at(uint32_t layer, uint32_t error, uint32_t code, const char **text) IWARP_NONNULL;
 
 /* Returns a text that says what a fault means. */
 static inline const char *iwarp_fault_text(uint32_t layer, uint32_t error, uint32_t code) {

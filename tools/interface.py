@@ -8,7 +8,7 @@ HEADER = f"{TOP}/include/iwarp.h"
 
 COMMENT = re.compile(r"/\*(.*?)\*/", re.S)
 ITEM = re.compile(r"(?P<comment>(?:/\*(?:.|\n)*?\*/\n)?)(?P<code>(?:enum|struct|#define|[a-z]\w*) ?(?:.|\n)*?)(?=\n\n|\Z)")
-FUNCTION = re.compile(r"^(?P<type>[a-z][\w ]*[ *])(?P<name>iwarp_\w+)\((?P<parameters>[^;{}]*)\);", re.M)
+FUNCTION = re.compile(r"^(?P<type>[a-z][\w ]*[ *])(?P<name>iwarp_\w+)\((?P<parameters>[^;{}()]*)\)(?: IWARP_[A-Z]+)?;", re.M)
 INLINE = re.compile(r"^static inline .*?(iwarp_\w+)\(", re.M)
 NUMBER = re.compile(r"\b(IWARP_\w+) = (\d+)")
 

@@ -1,6 +1,7 @@
 /* What calls cost through the C interface, beside the same calls from Rattle (crates/bench_handle), in one run, by turns: the
  * median of many rounds of each, in processor time. A line each: what it is, the nanoseconds in Rattle, and those in C. */
 #define _POSIX_C_SOURCE 199309L
+#define IWARP_NO_ATTRIBUTES /* what is timed looks at no code */
 #include "../../include/iwarp.h"
 #include <malloc.h>
 #include <stdio.h>

@@ -3,7 +3,7 @@ use std::env;
 use std::process::{exit, Command};
 
 /// The version that this crate was written for: a library of another major number has another interface.
-const LEAST: &str = "1.2.0";
+const LEAST: &str = "1.3.0";
 const BELOW: &str = "2";
 
 fn main() {

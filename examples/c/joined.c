@@ -352,6 +352,90 @@ static void emit_sends(struct frame frames[SENDS]) {
     iwarp_free(&sender.handle);
 }
 
+/* The frame of one Send, out of a pool of two buffers, by work with these limits: the first event. */
+static struct iwarp_event told_by(const struct iwarp_limits *these) {
+    struct end sender = opened(IWARP_PRESET, ""), end = sharing();
+    struct frame frame;
+    struct iwarp_event event;
+    post_octets(&sender, 7);
+    emit(&sender, 0, &frame);
+    for (int i = 0; i < 2; i++) CHECK(iwarp_post_shared(&end.handle, DOMAIN, 600) == IWARP_OK);
+    deliver(&end, &frame);
+    CHECK(iwarp_work_marked(&end.handle, STREAM, these, &event) == IWARP_OK);
+    close_both(&sender, &end);
+    return event;
+}
+
+static struct iwarp_limits limits_of(size_t size, size_t share, size_t mark, uint64_t flags) {
+    return (struct iwarp_limits){.size = size, .share = share, .mark = mark, .flags = flags, .reserved = {9, 9, 9, 9}};
+}
+
+static int tells_by(size_t size, size_t share, size_t mark, uint64_t flags, uint32_t kind) {
+    struct iwarp_limits these = limits_of(size, share, mark, flags);
+    struct iwarp_event event = told_by(&these);
+    CHECK(event.flags == (kind == IWARP_BUFFERED ? IWARP_ABOVE_MARK : 0));
+    return event.kind == kind;
+}
+
+enum { OLD = 56 /* octets of the struct of 1.2, which has no flags */, NEW = sizeof(struct iwarp_limits) };
+
+/* A cleared struct sets no limit. That of 1.2 sets both, whatever stands where the flags are now. */
+static void a_cleared_struct_binds_nothing(void) {
+    struct iwarp_limits cleared;
+    memset(&cleared, 0, sizeof cleared);
+    cleared.size = sizeof cleared;
+    CHECK(told_by(&cleared).kind == IWARP_RECEIVED);
+    cleared.size = OLD;
+    CHECK(told_by(&cleared).kind == IWARP_FAULT);
+    CHECK(tells_by(OLD, SIZE_MAX, 0, 0, IWARP_BUFFERED));
+    CHECK(tells_by(OLD, SIZE_MAX, 0, IWARP_HAS_SHARE, IWARP_BUFFERED));
+    CHECK(tells_by(OLD, SIZE_MAX, SIZE_MAX, 99, IWARP_RECEIVED));
+    CHECK(tells_by(NEW - 1, 0, SIZE_MAX, IWARP_HAS_MARK, IWARP_FAULT));
+}
+
+/* The flags say which limits count; without one those that are not 0. */
+static void flags_say_which_limits_count(void) {
+    struct iwarp_limits unknown = limits_of(NEW, 1, 1, 4);
+    struct iwarp_event event;
+    struct end end = sharing();
+    CHECK(tells_by(NEW, 0, 0, IWARP_HAS_SHARE, IWARP_FAULT));
+    CHECK(tells_by(NEW, 0, 0, IWARP_HAS_MARK, IWARP_BUFFERED));
+    CHECK(tells_by(NEW, 0, 0, IWARP_HAS_SHARE | IWARP_HAS_MARK, IWARP_FAULT));
+    CHECK(tells_by(NEW, 1, 0, IWARP_HAS_SHARE | IWARP_HAS_MARK, IWARP_BUFFERED));
+    CHECK(tells_by(NEW, 1, 0, IWARP_HAS_SHARE, IWARP_RECEIVED));
+    CHECK(tells_by(NEW, 1, 1, 0, IWARP_RECEIVED));
+    CHECK(tells_by(NEW + 64, 0, 0, 0, IWARP_RECEIVED));
+    CHECK(iwarp_work_marked(&end.handle, 5, &unknown, &event) == IWARP_BAD_BITS);
+    unknown.size = OLD;
+    CHECK(iwarp_work_marked(&end.handle, 5, &unknown, &event) == IWARP_NO_SUCH_STREAM);
+    iwarp_free(&end.handle);
+}
+
+/* 2,048 Writes of no octets, each two steps, and a Send behind them. */
+static void carry_writes_and_a_send(struct end *sender, struct end *end) {
+    struct iwarp_event event;
+    for (int i = 0; i < 2048; i++) {
+        CHECK(iwarp_post_write(&sender->handle, STREAM, REGION, 0, iwarp_octets(NULL), 0, 0) == IWARP_OK);
+        CHECK(carry(sender, end) == 1);
+        CHECK(iwarp_work(&sender->handle, STREAM, &event) == IWARP_OK && event.kind == IWARP_DONE);
+    }
+    CHECK(post_text(sender, "hi", 0) == IWARP_OK);
+    CHECK(carry(sender, end) == 1);
+}
+
+/* What is told after 4,096 steps alone has no flag: it binds a first buffer, and the mark is one. */
+static void many_steps_are_no_mark(void) {
+    struct end sender = opened(IWARP_PRESET, ""), end = sharing();
+    struct iwarp_event event;
+    CHECK(iwarp_post_shared(&end.handle, DOMAIN, 2) == IWARP_OK);
+    carry_writes_and_a_send(&sender, &end);
+    CHECK(iwarp_work(&end.handle, STREAM, &event) == IWARP_OK && event.kind == IWARP_PLACED);
+    CHECK(work_marked(&end.handle, STREAM, &event) == IWARP_OK);
+    CHECK(event.kind == IWARP_BUFFERED && event.flags == 0);
+    CHECK(does(work_marked, &end, STEPS(IWARP_RECEIVED, IWARP_IDLE)));
+    close_both(&sender, &end);
+}
+
 /* A frame comes, and all is done that there is to do: whether what is told is of these kinds. */
 static int tells(struct end *end, const struct frame *frame, const uint32_t *steps) {
     deliver(end, frame);
@@ -378,7 +462,7 @@ static void the_struct_is_judged_before_the_stream(void) {
     struct iwarp end = IWARP_CLOSED;
     struct iwarp_limits shorter = limits;
     struct iwarp_event event;
-    shorter.size--;
+    shorter.size = OLD - 1;
     CHECK(iwarp_work_marked(&end, 5, &shorter, &event) == IWARP_IS_CLOSED);
     CHECK(iwarp_new(&end) == IWARP_OK);
     CHECK(iwarp_work_marked(&end, 5, &shorter, &event) == IWARP_BAD_STRUCT);
@@ -398,6 +482,9 @@ int main(void) {
     from_a_share();
     a_mark_is_told_once_until_less_is_bound();
     the_struct_is_judged_before_the_stream();
+    a_cleared_struct_binds_nothing();
+    flags_say_which_limits_count();
+    many_steps_are_no_mark();
     puts("ok");
     return 0;
 }

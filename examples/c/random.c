@@ -1055,7 +1055,7 @@ static void shares(struct sender *sender, struct sender *other) {
 
 /* The step by which the stream comes to have more buffers bound than the mark is told: then it has one more. */
 static void work_to_mark(struct sender *sender, struct iwarp_event *event) {
-    struct iwarp_limits limits = {.size = sizeof limits, .share = SIZE_MAX, .mark = below(4)};
+    struct iwarp_limits limits = {.size = sizeof limits, .mark = below(4), .flags = IWARP_HAS_MARK};
     struct iwarp_progress before, after;
     MUST(iwarp_progress(&sender->end, STREAM, &before));
     MUST(iwarp_work_marked(&sender->end, STREAM, &limits, event));

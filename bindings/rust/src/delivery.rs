@@ -179,15 +179,17 @@ impl Handle {
     }
 
     /// As [`work_within`](Handle::work_within), if there is a share, and it also stops at the step by which the stream comes to have more
-    /// than `mark` of its pool's buffers bound: the high-water notification of RFC 5042 6.4.3.1. Its event is [`Event::Buffered`],
-    /// which [`work_on`](Handle::work_on) passes over. It is told once, and again only after the stream had `mark` or fewer bound.
+    /// than `mark` of its pool's buffers bound: the high-water notification of RFC 5042 6.4.3.1. Its event is [`Event::Buffered`]
+    /// with `above_mark`, which [`work_on`](Handle::work_on) passes over. It is told once, and again only after the stream had `mark` or fewer bound.
     ///
     /// Errors: as there.
     pub fn work_marked(&mut self, stream: Stream, share: Option<usize>, mark: usize) -> Result<Event> {
+        let has_share = if share.is_some() { raw::IWARP_HAS_SHARE } else { 0 };
         let limits = raw::iwarp_limits {
             size: mem::size_of::<raw::iwarp_limits>(),
             share: share.unwrap_or(usize::MAX),
             mark,
+            flags: u64::from(raw::IWARP_HAS_MARK | has_share),
             reserved: [0; 4],
         };
         let mut event = raw::iwarp_event::default();

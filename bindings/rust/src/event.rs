@@ -84,6 +84,9 @@ pub enum Event {
         mo: u32,
         /// How many octets.
         len: u64,
+        /// Whether the stream came to have more of its pool's buffers bound than the mark of
+        /// [`Handle::work_marked`](crate::Handle::work_marked).
+        above_mark: bool,
     },
     /// The peer asked to read a part of a region.
     Requested {
@@ -148,7 +151,10 @@ impl Event {
             raw::IWARP_OPENED => Self::Opened { agreed: Agreed::from_bits(event.flags), reads: len },
             raw::IWARP_CLOSED_BY_PEER => Self::ClosedByPeer(StartupFault::of(event.code)),
             raw::IWARP_PLACED => Self::Placed { stag, to, len, by: Rights::from_bits(event.right) },
-            raw::IWARP_BUFFERED => Self::Buffered { msn: event.msn, mo: event.mo, len },
+            raw::IWARP_BUFFERED => {
+                let above_mark = event.flags & raw::IWARP_ABOVE_MARK != 0;
+                Self::Buffered { msn: event.msn, mo: event.mo, len, above_mark }
+            }
             raw::IWARP_REQUESTED => Self::Requested { stag, to, len },
             raw::IWARP_PASSED => Self::Passed,
             raw::IWARP_RECEIVED => Self::Received {

@@ -66,7 +66,7 @@ macro_rules! functions {
 
 constants! {
     u32 {
-        IWARP_VERSION = 10200,
+        IWARP_VERSION = 10300,
     }
     i32 {
         IWARP_OK = 0,
@@ -151,6 +151,9 @@ constants! {
         IWARP_TERMINATED = 12,
         IWARP_FAULT = 13,
         IWARP_TRIED = 14,
+        IWARP_ABOVE_MARK = 1,
+        IWARP_HAS_SHARE = 1,
+        IWARP_HAS_MARK = 2,
         IWARP_MESSAGE_WRITE = 1,
         IWARP_MESSAGE_SEND = 2,
         IWARP_MESSAGE_READ = 3,
@@ -327,6 +330,7 @@ structs! {
         size: usize,
         share: usize,
         mark: usize,
+        flags: u64,
         reserved: [u64; 4],
     }
 

@@ -347,7 +347,7 @@ fn steps_tell_where_octets_were_placed() -> Result<()> {
     }
     let received = Event::Received { len: 2, solicited: false, invalidated: None };
     let placed = Event::Placed { stag: region, to: 102, len: 3, by: Rights::WRITE };
-    let buffered = Event::Buffered { msn: 1, mo: 0, len: 2 };
+    let buffered = Event::Buffered { msn: 1, mo: 0, len: 2, above_mark: false };
     assert_eq!(steps, [placed, Event::Passed, buffered, received, Event::Idle]);
     assert!(placed.is_progress() && !received.is_progress() && !Event::Idle.is_progress());
     Ok(())
@@ -459,7 +459,7 @@ fn a_stream_that_passes_a_mark_is_told() -> Result<()> {
     assert_eq!(b.handle.work_marked(b.stream, None, 1)?, Event::Idle);
     assert_eq!(b.handle.deliver(b.stream, 0, &one)?, Delivery::Kept);
     let event = b.handle.work_marked(b.stream, None, 1)?;
-    assert!(matches!(event, Event::Buffered { msn: 1, .. }), "{event:?}");
+    assert!(matches!(event, Event::Buffered { msn: 1, above_mark: true, .. }), "{event:?}");
     assert_eq!(b.handle.progress(b.stream)?.bound, 2);
     assert!(matches!(b.handle.work_marked(b.stream, None, 1)?, Event::Received { len: 600, .. }));
     Ok(())

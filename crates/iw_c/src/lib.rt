@@ -66,7 +66,7 @@ pub use streams::{
 pub use texts::{iwarp_fault_text_at, iwarp_text_at};
 
 /// The version of this library: 10,000 for each major number, 100 for each minor one, 1 for each revision.
-pub const VERSION: u32 = 10_200;
+pub const VERSION: u32 = 10_300;
 
 /// Returns [`VERSION`].
 #[unsafe(no_mangle)]

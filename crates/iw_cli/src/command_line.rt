@@ -154,7 +154,7 @@ fn pair<'a>(alloc: Global) -> Result<Command<'a>, clap::Error> {
 pub(crate) fn iwarp<'a>(alloc: Global) -> Result<Command<'a>, clap::Error> {
     Ok(
         Command::new(alloc, "iwarp")
-            .version("1.2.0")
+            .version("1.3.0")
             .about("iWARP: RDMA over TCP, as schedules that are replayed and between two processes")
             .subcommand_required(true)
             .arg_required_else_help(true)

@@ -169,6 +169,14 @@ pub const FAULT: u32 = 13;
 
 pub const TRIED: u32 = 14;
 
+// Whether a stream came to be above its high-water mark.
+pub const ABOVE_MARK: u32 = 1;
+
+// Which limits of a pool count.
+pub const HAS_SHARE: u32 = 1;
+
+pub const HAS_MARK: u32 = 2;
+
 // What was posted.
 pub const MESSAGE_WRITE: u32 = 1;
 

@@ -10,6 +10,7 @@ pub mod Events
 pub mod Steps
 pub mod Lending
 pub mod Limiting
+pub mod Limits
 pub mod Sending
 pub mod Sized
 pub mod Registering

@@ -37,7 +37,7 @@ pub use event::{
 };
 pub use handle::Handle;
 pub use held::Held;
-pub use laws::{calls_give_work_to_their_own_stream, codes_are_distinct};
+pub use laws::{calls_give_work_to_their_own_stream, cleared_limits_set_none, codes_are_distinct};
 pub use refusal::{Refusal, buffer_reason, code};
 pub use sized::{Limits, Options, PeerTold, Posting, RegionTold, Registration};
 pub use words::{domain_number, read_request, stag_of};

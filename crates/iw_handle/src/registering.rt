@@ -17,7 +17,7 @@ use iw_codes::numbers;
 use iw_endpoint::{CallRefusal, Endpoint, LimitRefusal, RegisterRefusal, Stag};
 use std::alloc::Global;
 
-fn check_flags(flags: u64) -> Result<(), Refusal>
+pub(crate) fn check_flags(flags: u64) -> Result<(), Refusal>
     ensures { result_err result ≡ bits_refusal 4 flags }
 {
     if flags < 4 {

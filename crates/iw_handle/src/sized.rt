@@ -28,6 +28,9 @@ pub const REGISTRATION_SIZE: usize = 72;
 
 pub const LIMITS_SIZE: usize = 56;
 
+// How many octets limits have from the version on that gave them flags.
+pub const FLAGGED_LIMITS_SIZE: usize = 64;
+
 const _: () = prove!(size_of::<RegionTold>() == REGION_SIZE);
 
 const _: () = prove!(size_of::<PeerTold>() == PEER_SIZE);
@@ -132,7 +135,8 @@ pub struct Registration {
 }
 
 /// How many buffers of its domain's pool a stream may take, and from how many on it is told (RFC 5042 6.4.3.1). What is reserved is
-/// not read.
+/// not read. In a struct of 64 octets or more the flags say which limits count; without one those that are not 0, so a cleared struct
+/// sets none. A shorter one, of the first version, has no flags, and both count. These are the 56 octets that both have.
 #[repr(C)]
 #[derive(Clone, Copy)]
 pub struct Limits {
@@ -142,10 +146,11 @@ pub struct Limits {
     pub share: usize,
     /// It is told when more than so many come to be bound; `usize::MAX` sets no mark.
     pub mark: usize,
+    /// A sum of 1 (it has a share) and 2 (it has a mark).
+    pub flags: u64,
     pub reserved_0: u64,
     pub reserved_1: u64,
     pub reserved_2: u64,
-    pub reserved_3: u64,
 }
 
 /// Whether a struct of `size` octets has the fields of the first version, of `first` octets.
