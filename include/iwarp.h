@@ -238,7 +238,8 @@ int32_t iwarp_buffer_at(struct iwarp_buffer *buffer, uint8_t **at, size_t *n) IW
 int32_t iwarp_buffer_truncate(struct iwarp_buffer *buffer, size_t n) IWARP_CHECKED;
 
 /* Drops the first `n` octets, or all if there are no more: after a write that took a part. The others move to the front, all of them at
- * each call, and the memory stays with the buffer. So have iwarp_fill append no more at once than a socket takes in a few writes. */
+ * each call, and the memory stays with the buffer. Have iwarp_fill append no more at once than a few writes take: 16 MiB that go out by
+ * 1,460 octets are moved 96 GB in all, 64 KiB 1.4 MB. */
 int32_t iwarp_buffer_drop_front(struct iwarp_buffer *buffer, size_t n) IWARP_CHECKED;
 
 /* ---- regions */

@@ -377,7 +377,8 @@ static int tells_by(size_t size, size_t share, size_t mark, uint64_t flags, uint
     return event.kind == kind;
 }
 
-enum { OLD = 56 /* octets of the struct of 1.2, which has no flags */, NEW = sizeof(struct iwarp_limits) };
+enum { OLD = 56 /* octets of the struct of 1.2, which has no flags */, NEW = 64 };
+_Static_assert(sizeof(struct iwarp_limits) == NEW, "limits");
 
 /* A cleared struct sets no limit. That of 1.2 sets both, whatever stands where the flags are now. */
 static void a_cleared_struct_binds_nothing(void) {
