@@ -612,8 +612,8 @@ int32_t iwarp_room(struct iwarp *handle, uint32_t stream, size_t want, uint8_t *
 
 /* Tells the library that the program read `n` octets to the front of the place that is lent at this stream. They come right behind
  * the last octet that came, so no sequence number is needed. None of them is dropped, unless the stream has ended. The place is then
- * no longer lent. IWARP_NOT_LENT: `n` is 0, or more than are lent; if the place was taken back none are, and what was written there
- * is lost. IWARP_NO_MEMORY stands in the contract alone: what is lent has its memory. */
+ * no longer lent. IWARP_NOT_LENT: `n` is 0, or more than are lent, which stay lent; if the place was taken back none are, and what was
+ * written there is lost. IWARP_NO_MEMORY stands in the contract alone: what is lent has its memory. */
 int32_t iwarp_came(struct iwarp *handle, uint32_t stream, size_t n) IWARP_CHECKED;
 
 /* What a step of work did. */

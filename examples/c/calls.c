@@ -275,6 +275,12 @@ static void filled(void) {
     CHECK(fills(&end, 56, &buffer, IWARP_FILL_ALL, 1, FRAME));
     CHECK(fills(&end, 56, &buffer, IWARP_FILL_ALL, 0, 0));
     CHECK(length(&buffer) == 87);
+    /* Behind a first frame that is longer it is not looked whether more is due; behind one that fits it is. */
+    CHECK(post_text(&end, STREAM, "gh", 4) == IWARP_OK);
+    CHECK(fills(&end, FRAME - 1, &buffer, IWARP_FILL_MORE, 1, FRAME));
+    CHECK(fills(&end, FRAME - 1, &buffer, IWARP_FILL_ALL, 0, 0));
+    CHECK(post_text(&end, STREAM, "ij", 5) == IWARP_OK);
+    CHECK(fills(&end, FRAME, &buffer, IWARP_FILL_ALL, 1, FRAME));
     iwarp_buffer_free(&buffer);
     iwarp_free(&end);
 }
@@ -353,6 +359,22 @@ static void places_are_lent_at_once(void) {
     CHECK(lends(&end, other, 16, 16));
     CHECK(iwarp_work(&end, other, &event) == IWARP_OK);
     CHECK(iwarp_came(&end, other, 1) == IWARP_NOT_LENT);
+    iwarp_free(&end);
+}
+
+/* Calls that are refused leave a place lent, but for those that take it back whatever they return. */
+static void a_refused_call_leaves_a_place_lent(void) {
+    struct iwarp end = with_stream();
+    struct iwarp_limits shorter = {.size = 55};
+    struct iwarp_event event;
+    CHECK(lends(&end, GIVEN, 8, 8));
+    CHECK(iwarp_came(&end, GIVEN, 0) == IWARP_NOT_LENT);
+    CHECK(iwarp_came(&end, GIVEN, 9) == IWARP_NOT_LENT);
+    CHECK(iwarp_close(&end, GIVEN) == IWARP_NOT_AT_REST);
+    CHECK(iwarp_came(&end, GIVEN, 8) == IWARP_OK);
+    CHECK(lends(&end, GIVEN, 8, 8));
+    CHECK(iwarp_work_marked(&end, GIVEN, &shorter, &event) == IWARP_BAD_STRUCT);
+    CHECK(iwarp_came(&end, GIVEN, 8) == IWARP_NOT_LENT);
     iwarp_free(&end);
 }
 
@@ -543,6 +565,37 @@ static void posted_from_a_buffer(void) {
     iwarp_free(&end);
 }
 
+/* A buffer is looked for before its struct is judged; of that the size and kind, the flags, and then whether it is a Read. */
+static void reasons_have_their_order(void) {
+    struct iwarp end = with_region();
+    struct iwarp_buffer none = IWARP_NO_BUFFER, buffer = IWARP_NO_BUFFER;
+    struct iwarp_registration registration = {.size = 71};
+    struct iwarp_region region = marked_region(71);
+    struct iwarp_peer peer = marked_peer(79);
+    uint32_t stag;
+    CHECK(iwarp_buffer_new(2, &buffer) == IWARP_OK);
+    CHECK(post_buffer(&end, 0, 4, &none) == IWARP_BUFFER_MISSING);
+    CHECK(post_buffer(&end, 0, 4, &buffer) == IWARP_BAD_STRUCT);
+    CHECK(post_buffer(&end, IWARP_MESSAGE_READ, 1, &buffer) == IWARP_BAD_BITS);
+    CHECK(post_buffer(&end, IWARP_MESSAGE_READ, 0, &buffer) == IWARP_BAD_STRUCT);
+    CHECK(iwarp_register_buffer_as(&end, &registration, &none, &stag) == IWARP_BUFFER_MISSING);
+    CHECK(iwarp_register_buffer_as(&end, &registration, &buffer, &stag) == IWARP_BAD_STRUCT);
+    CHECK(iwarp_region_facts(&end, 1, &region) == IWARP_BAD_STRUCT);
+    CHECK(iwarp_peer_facts(&end, 1, &peer) == IWARP_BAD_STRUCT);
+    iwarp_buffer_free(&buffer);
+    iwarp_free(&end);
+    CHECK(post_buffer(&end, 0, 4, &none) == IWARP_IS_CLOSED);
+    CHECK(iwarp_region_facts(&end, 1, &region) == IWARP_IS_CLOSED);
+}
+
+static void a_posting_is_of_its_kind(void) {
+    struct iwarp_posting read = iwarp_posting_of(IWARP_MESSAGE_READ), cleared;
+    memset(&cleared, 0, sizeof cleared);
+    cleared.size = sizeof cleared;
+    cleared.kind = IWARP_MESSAGE_READ;
+    CHECK(memcmp(&read, &cleared, sizeof read) == 0);
+}
+
 int main(void) {
     made();
     registered();
@@ -557,11 +610,14 @@ int main(void) {
     dropped();
     places_are_lent();
     places_are_lent_at_once();
+    a_refused_call_leaves_a_place_lent();
     a_region_is_for_one_stream();
     region_told();
     peer_told();
     posted();
     posted_from_a_buffer();
+    reasons_have_their_order();
+    a_posting_is_of_its_kind();
     puts("ok");
     return 0;
 }
