@@ -2,6 +2,7 @@
 use Rattle.std.proofs.Common.{◌≡◌, ◌≢◌, ℕ, ℤ, pos, Option, Some, None, Ok, Err, ap, ◌∙◌, ◌⊎◌, inl, inr, subst}
 use Rattle.std.specs.Prelude.{Result, IfSome, IfNone, IfErr}
 use Rattle.std.specs.Result.{result_err}
+use Rattle.iw_handle.specs.declared.held.Held.{Held}
 use Rattle.iw_handle.specs.declared.refusal.Refusal.{Refusal}
 use Rattle.iw_handle.specs.declared.refusal.Refusal.TheVariants.{NoMemory}
 use Rattle.iw_handle.specs.Refusals.{code_of, refusal_code}
@@ -24,6 +25,14 @@ coded_refusal_as o p r n same refused is = subst (λ q. IfSome q (λ x. n ≡ po
 
 pub coded_memory_as : {A : Type 0} (o p : Option Refusal) (r : Result A Refusal) (n : ℤ) → o ≡ p → IfNone o (IfErr r (λ e. e ≡ NoMemory)) → n ≡ pos (code_of (result_err r)) → IfNone p ((n ≡ pos 0) ⊎ (n ≡ pos 3))
 coded_memory_as o p r n same memory is = subst (λ q. IfNone q ((n ≡ pos 0) ⊎ (n ≡ pos 3))) same (coded_memory o r n memory is)
+
+-- a refusal of an open handle, and what is so beside it
+pub coded_beside : {A : Type 0} (state : Option Held) (o : Option Refusal) (r : Result A Refusal) (n : ℤ) (P : Held → Type 0)
+    → IfSome state (λ held. IfSome o (λ x. (r ≡ Err x) × P held)) → n ≡ pos (code_of (result_err r))
+    → IfSome state (λ held. IfSome o (λ x. (n ≡ pos (refusal_code x)) × P held))
+coded_beside None o r n P refused is = tt
+coded_beside (Some held) None r n P refused is = tt
+coded_beside (Some held) (Some x) r n P refused is = (is ∙ ap (λ q. pos (code_of (result_err q))) refused.0, refused.1)
 
 -- what a refusal leaves of a posting from a buffer
 pub coded_kept : {A : Type 0} (state : State) (number : ℕ) (buffer : buffers.State) (after : State) (left : buffers.State) (r : Result A Refusal) (n : ℤ)
