@@ -619,8 +619,8 @@ int32_t iwarp_came(struct iwarp *handle, uint32_t stream, size_t n) IWARP_CHECKE
 /* What a step of work did. */
 enum {
     IWARP_IDLE = 0, /* nothing: there is nothing to do until more octets come or more is emitted */
-    IWARP_DONE = 1, /* the oldest posted message is done: `message`, `token`. A Write or Send is once its last frame was emitted: its
-                     * octets are no longer needed, but may not have been written to the socket, or have come. A Read is once its octets
+    IWARP_DONE = 1, /* the oldest posted message is done: `message`, `token`. A Write or Send: its last frame was emitted whole, into
+                     * the program's memory, which says nothing of the socket, nor that the peer placed or received it. A Read: its octets
                      * are in its region */
     IWARP_FLUSHED = 2, /* the stream has ended: the oldest posted message is given up: `message`, `token`; a later one may be done */
     IWARP_FLUSHED_RECV = 3, /* the stream has ended: its oldest receive buffer, of `len` octets, can be fetched */
