@@ -498,11 +498,14 @@ static void call_due(const struct call *call) {
 /* None, or some buffers. */
 static size_t any_share(void) { return below(4) ? below(4) : SIZE_MAX; }
 
-/* Does steps with any limits. Their struct's own reason is told, if it has one, but for a closed handle's. */
+/* Does steps with any limits, those of 1.2 too, of 56 octets and without flags. Their struct's own reason is told, if it has one, but
+ * for a closed handle's. */
 static int32_t work_marked(struct iwarp *handle, uint32_t stream, struct iwarp_event *event) {
-    struct iwarp_limits limits = {.size = any_size(sizeof limits), .share = any_share(), .mark = any_share(), .reserved = {MARK}};
+    struct iwarp_limits limits = {.size = any_size(below(2) ? sizeof limits : 56), .share = any_share(), .mark = any_share()};
+    limits.flags = below(5);
     int32_t code = iwarp_work_marked(handle, stream, &limits, event);
-    CHECK(code == IWARP_IS_CLOSED || (code == IWARP_BAD_STRUCT) == (limits.size < sizeof limits));
+    CHECK(code == IWARP_IS_CLOSED || (code == IWARP_BAD_STRUCT) == (limits.size < 56));
+    CHECK(code == IWARP_IS_CLOSED || (code == IWARP_BAD_BITS) == (limits.size >= sizeof limits && limits.flags > 3));
     return code;
 }
 
@@ -1061,7 +1064,7 @@ static void work_to_mark(struct sender *sender, struct iwarp_event *event) {
     MUST(iwarp_work_marked(&sender->end, STREAM, &limits, event));
     MUST(iwarp_progress(&sender->end, STREAM, &after));
     if (event->kind == IWARP_BUFFERED)
-        CHECK(after.bound == limits.mark + 1);
+        CHECK(after.bound == limits.mark + 1 && event->flags == IWARP_ABOVE_MARK);
     else
         CHECK(before.bound > limits.mark || after.bound <= limits.mark);
 }
