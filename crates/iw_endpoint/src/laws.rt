@@ -35,15 +35,15 @@ pub fn limited_regions_are_apart()
 {}
 
 /// The same of any list of calls, none of which is at the stream that the region is limited to, nor one by which the owner
-/// reads, writes, invalidates or deregisters the region: it stays as it was, and neither the answers nor what else the
+/// reads, writes, invalidates or takes out the region: it stays as it was, and neither the answers nor what else the
 /// calls leave depend on its octets.
 pub fn limited_regions_stay_apart()
     ensures { LimitedRegionsStayApart }
 {}
 
 /// Over any list of calls, those at its own stream and its owner's among them, the octets of a region that is limited to one
-/// stream are shown only by what `emit` appends at that stream, and by `local`, `local_mut` and `deregister` of its STag. All
-/// other answers, and all else that the calls leave, are the same whatever octets it had.
+/// stream are shown only by what `emit` appends at that stream, and by `local`, `local_mut`, `deregister`, `deregister_kept` and
+/// `take_region` of its STag. All other answers, and all else that the calls leave, are the same whatever octets it had.
 pub fn limited_regions_are_hidden()
     ensures { LimitedRegionsAreHidden }
 {}
