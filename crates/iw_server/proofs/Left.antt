@@ -4,7 +4,6 @@ use Rattle.std.specs.Prelude.{◌⊎◌, false, IfOk, OnErr}
 use Rattle.std.specs.Io.KnownBytes.{Appends, Keeps}
 use Rattle.std.proofs.KnownBytes.{Appends-nil, Appends-kept, Appends-trans}
 use Rattle.std.proofs.lemmas.List.{drop-append-le, drop-drop, drop_all, take-append-drop}
-use Rattle.iw_stream.specs.declared.answer.Emission.{Emission}
 use Rattle.iw_endpoint.specs.Endpoint.{EndpointState, emission_at, after_emit}
 use Rattle.iw_connection.specs.declared.filling.Filled.{Filled}
 use Rattle.iw_connection.specs.declared.filling.Filled.TheVariants as filled

@@ -1,12 +1,12 @@
 -- Steps of a connection's stream, one after another.
-use Rattle.std.proofs.Common.{◌≡◌, ℕ, List, refl, sym, ap, subst, ◌∙◌}
+use Rattle.std.proofs.Common.{◌≡◌, ℕ, List, refl, sym, subst, ◌∙◌}
 use Rattle.iw_octets.specs.declared.stag.Stag.{Stag}
 use Rattle.iw_stream.specs.declared.answer.Step.{Step}
 use Rattle.iw_stream.specs.declared.answer.Step.TheVariants as steps
 use Rattle.iw_endpoint.specs.Endpoint.{EndpointState, broken, after_close}
-use Rattle.iw_connection.specs.Steps.{GoesTo}
+use Rattle.iw_connection.specs.Steps.{GoesTo, Stops}
 use Rattle.iw_server.specs.declared.connection.Connection.{Connection}
-use Rattle.iw_server.specs.Acting.{IsSame, Standing, standing, Does, Acts, NoStep, OneMore, ActsAll}
+use Rattle.iw_server.specs.Acting.{IsSame, standing, Does, Acts, NoStep, OneMore, ActsAll, ActsOn}
 use Rattle.iw_server.specs.Closing as closing
 use Rattle.iw_server.specs.Closing.{HandsBack, IsForgotten}
 
@@ -48,6 +48,14 @@ acted_all e c e' c' f h goes = record {
   t = standing e' c';
   acts = h.acts;
   rests = subst (λ (n : ℕ). GoesTo e' n steps.Idle f) h.same.stream goes;
+  same = refl;
+}
+
+pub acted_on : (e : EndpointState) (c : Connection) (e' : EndpointState) (c' : Connection) (f : EndpointState) → HasActed e c e' c' → Stops e' c'.stream f → ActsOn c.region c.stream (standing e c) (standing f c')
+acted_on e c e' c' f h stops = record {
+  t = standing e' c';
+  acts = h.acts;
+  stops = subst (λ (n : ℕ). Stops e' n f) h.same.stream stops;
   same = refl;
 }
 

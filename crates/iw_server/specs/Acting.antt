@@ -10,10 +10,10 @@ use Rattle.iw_queues.specs.declared.request.Request.TheVariants as requests
 use Rattle.iw_stream.specs.declared.answer.Step.{Step}
 use Rattle.iw_stream.specs.declared.answer.Step.TheVariants as steps
 use Rattle.iw_endpoint.specs.Endpoint.{EndpointState, octets_of, invalidated, accepted, with_request, with_buffer}
-use Rattle.iw_connection.specs.Steps.{GoesTo}
+use Rattle.iw_connection.specs.Steps.{GoesTo, Stops}
 use Rattle.iw_server.specs.declared.connection.Connection.{Connection}
 use Rattle.iw_server.specs.declared.connection.Phase.{Phase}
-use Rattle.iw_server.specs.declared.connection.Phase.TheVariants.{Ended, Closed}
+use Rattle.iw_server.specs.declared.connection.Phase.TheVariants.{Running, Ended, Closed}
 
 -- what a connection keeps as long as it lives, and what only its output changes
 pub record IsSame (old new : Connection) : Type 0 where
@@ -52,6 +52,10 @@ pub record Answers (region : Stag) (number len : ℕ) (e e' : EndpointState) : T
   pub front : option_map (take len) (octets_of (invalidated e region) region) ≡ Some octets
   pub posted : e' ≡ with_request (invalidated e region) number (send_of octets)
 
+-- the Request is accepted: the stream is open
+abbrev pub opened_as : ℕ → Stag → Standing → Standing
+opened_as number region s = record s { endpoint = accepted s.endpoint number (naming region); phase = Running }
+
 -- the answer is out: the receive buffer is posted again
 abbrev pub lent_again : ℕ → Standing → Standing
 lent_again number s = record s { endpoint = option_map_or (λ buffer. with_buffer s.endpoint number buffer) s.buffer s.endpoint; buffer = None }
@@ -64,7 +68,7 @@ abbrev pub Does : Stag → ℕ → Step (List ℕ) → Standing → Standing →
 Does region number (steps.Done kind) s t = t ≡ lent_again number s
 Does region number (steps.Flushed kind) s t = t ≡ s
 Does region number (steps.FlushedRecv buffer) s t = t ≡ s
-Does region number steps.Asked s t = t ≡ record s { endpoint = accepted s.endpoint number (naming region) }
+Does region number steps.Asked s t = t ≡ opened_as number region s
 Does region number (steps.Opened agreed) s t = t ≡ s
 Does region number (steps.Closed fault) s t = t ≡ record s { phase = Closed; has_failed = true }
 Does region number (steps.Placed right stag to len) s t = t ≡ s
@@ -90,3 +94,14 @@ pub record ActsAll (region : Stag) (number : ℕ) (s u : Standing) : Type 0 wher
   pub acts : Acts region number s t
   pub rests : GoesTo t.endpoint number steps.Idle u.endpoint
   pub same : u ≡ record t { endpoint = u.endpoint }
+
+-- or more is to be done in a later turn
+pub record ActsOn (region : Stag) (number : ℕ) (s u : Standing) : Type 0 where
+  pub t : Standing
+  pub acts : Acts region number s t
+  pub stops : Stops t.endpoint number u.endpoint
+  pub same : u ≡ record t { endpoint = u.endpoint }
+
+abbrev pub HasActedFor : Bool → Stag → ℕ → Standing → Standing → Type 0
+HasActedFor true region number s u = ActsAll region number s u
+HasActedFor false region number s u = ActsOn region number s u

@@ -1,5 +1,5 @@
 -- What is left of a connection that is over.
-use Rattle.std.specs.Prelude.{◌≡◌, ℕ, Ok}
+use Rattle.std.specs.Prelude.{◌≡◌, ℕ}
 use Rattle.std.specs.Prelude.{List}
 use Rattle.iw_octets.specs.declared.stag.Stag.{Stag}
 use Rattle.iw_stream.specs.declared.answer.Step.{Step}

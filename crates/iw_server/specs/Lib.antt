@@ -4,4 +4,6 @@ pub mod Opening
 pub mod Acting
 pub mod Turns
 pub mod Closing
-pub mod Silence
+pub mod Lateness
+pub mod Effort
+pub mod Logged

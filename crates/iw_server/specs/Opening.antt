@@ -1,12 +1,13 @@
 -- What a connection begins with.
-use Rattle.std.specs.Prelude.{◌≡◌, ℕ, ◌+◌, List, [], replicate, Bool, true, false, if◌then◌else◌, Option, Some}
+use Rattle.std.specs.Prelude.{◌≡◌, ℕ, ◌+◌, List, [], replicate, true, false, if◌then◌else◌, Some}
 use Rattle.iw_memory.specs.declared.rights.Rights.{Rights}
-use Rattle.iw_memory.specs.Table.{next_stag}
+use Rattle.iw_memory.specs.Table.{drawn_stag}
 use Rattle.iw_octets.specs.declared.stag.Stag.{Stag}
 use Rattle.iw_startup.specs.declared.config.Config.{Config}
 use Rattle.iw_startup.specs.declared.config.Establishment.TheVariants.{Plain, Enhanced}
 use Rattle.iw_stream.specs.declared.answer.Role.TheVariants.{Responder}
-use Rattle.iw_endpoint.specs.Endpoint.{EndpointState, stream_at, next_number, opened_next, with_buffer, limited}
+use Rattle.iw_endpoint.specs.Endpoint.{EndpointState, stream_at, next_number, opened_next, with_buffer}
+use Rattle.iw_endpoint.specs.Drawing.{limited_drawn}
 use Rattle.iw_server.specs.declared.connection.Connection.{Connection}
 use Rattle.iw_server.specs.declared.terms.Terms.{Terms}
 use Rattle.iw_server.specs.Domains.{HasRoom, MayAdd, taken_at}
@@ -32,16 +33,16 @@ zero_octets count = replicate count 0
 abbrev pub lent : EndpointState → ℕ → ℕ → EndpointState
 lent e number most = with_buffer e number (zero_octets most)
 
--- and a region that is registered for it alone
-abbrev pub prepared : EndpointState → ℕ → ℕ → EndpointState
-prepared e number most = limited (lent e number most) number 0 (zero_octets most) writable
+-- and a region that is registered for it alone, under an STag that is drawn
+abbrev pub prepared : EndpointState → ℕ → ℕ → ℕ → EndpointState
+prepared e number most drawn = limited_drawn (lent e number most) number 0 (zero_octets most) writable drawn
 
 -- which this STag names
-abbrev pub region_for : EndpointState → ℕ → ℕ → Stag
-region_for e number most = next_stag (lent e number most).table (stream_at (lent e number most) number).domain
+abbrev pub region_for : EndpointState → ℕ → ℕ → ℕ → Stag
+region_for e number most drawn = drawn_stag (lent e number most).table (stream_at (lent e number most) number).domain drawn
 
 -- The connection has a stream in a domain that had room for one more region, and all that a stream begins with.
-pub record IsOpened (terms : Terms) (counts counts' : List ℕ) (e e' : EndpointState) (connection : Connection) : Type 0 where
+pub record IsOpened (terms : Terms) (drawn : ℕ) (counts counts' : List ℕ) (e e' : EndpointState) (connection : Connection) : Type 0 where
   pub domains : List ℕ
   pub at : EndpointState
   pub added : MayAdd counts domains e at
@@ -50,5 +51,5 @@ pub record IsOpened (terms : Terms) (counts counts' : List ℕ) (e e' : Endpoint
   pub number : next_number at ≡ Some connection.stream
   pub opened : EndpointState
   pub is : opened ≡ opened_next at (next_number at) (connection.place + 1) Responder (config_of terms)
-  pub prepared : e' ≡ prepared opened connection.stream terms.most
-  pub region : connection.region ≡ region_for opened connection.stream terms.most
+  pub prepared : e' ≡ prepared opened connection.stream terms.most drawn
+  pub region : connection.region ≡ region_for opened connection.stream terms.most drawn

@@ -1,34 +1,57 @@
-ghost use Rattle.std.specs.Prelude.{◌≡◌, ◌≤◌, length, true, Some, OnOk};
+ghost use Rattle.std.specs.Prelude.{◌≡◌, ◌≤◌, length, true, Some, IfOk, OnOk};
 ghost use Rattle.iw_stream.specs.Kept.{IsWithinBuffer};
-ghost use Rattle.iw_endpoint.specs.Endpoint.{accepted};
-ghost use Rattle.iw_server.specs.Acting.{IsSame, standing, naming, Answers, lent_again, Does, ActsAll};
+ghost use Rattle.iw_server.specs.Acting.{IsSame, standing, opened_as, Answers, lent_again, Does, HasActedFor};
 
 use crate::connection::{Broken, Connection, Phase};
-use crate::lines::{add_closed, add_fault, add_received};
+use crate::effort::{Effort, Halt, next_step};
+use crate::log::Log;
 use bytes::Bytes;
-use iw_connection::{Endpoint, Octets, Step, next};
+use iw_connection::{Endpoint, Octets, Step};
 use iw_endpoint::{Message, PrivateData, Request};
-use std::alloc::{AllocError, Global};
+use std::alloc::Global;
 
-/// Does what the steps of a connection's stream ask for, until there is nothing to do.
+/// Does what the steps of a connection's stream ask for, until there is nothing to do, or as much was done as one turn has
+/// room for. Returns whether there is nothing to do.
 pub(crate) fn act(
     alloc: Global,
     endpoint: &mut Endpoint,
     connection: &mut Connection,
-    log: &mut String,
-) -> Result<(), Broken>
+    log: &mut Log,
+    now: u64,
+) -> Result<bool, Broken>
     ensures same { IsSame connection.old connection.new }
-    ensures ok { OnOk result (ActsAll connection.old.region connection.old.stream
+    ensures ok { IfOk result (λ is_all. HasActedFor is_all connection.old.region connection.old.stream
+        (standing endpoint.old connection.old) (standing endpoint.new connection.new)) }
+{
+    let mut effort = Effort::new();
+    let acted = act_within(alloc, endpoint, connection, log, &mut effort);
+    if effort.is_of_use() {
+        connection.moved = now;
+    }
+    acted
+}
+
+// The same, with so much effort.
+fn act_within(
+    alloc: Global,
+    endpoint: &mut Endpoint,
+    connection: &mut Connection,
+    log: &mut Log,
+    effort: &mut Effort,
+) -> Result<bool, Broken>
+    ensures same { IsSame connection.old connection.new }
+    ensures ok { IfOk result (λ is_all. HasActedFor is_all connection.old.region connection.old.stream
         (standing endpoint.old connection.old) (standing endpoint.new connection.new)) }
 {
     'steps: for _ in 0..u64::MAX {
-        match next(endpoint, connection.stream) {
-            Ok(Step::Idle) => return Ok(()),
+        match next_step(endpoint, connection.stream, effort) {
+            Ok(Step::Idle) => return Ok(true),
             Ok(step) => match act_on(alloc, endpoint, connection, log, step) {
                 Ok(()) => {}
                 Err(broken) => return Err(broken),
             },
-            Err(_) => return Err(Broken),
+            Err(Halt::Spent) => return Ok(false),
+            Err(Halt::Broken) => return Err(Broken),
         }
     }
     Err(Broken)
@@ -39,7 +62,7 @@ fn act_on(
     alloc: Global,
     endpoint: &mut Endpoint,
     connection: &mut Connection,
-    log: &mut String,
+    log: &mut Log,
     step: Step<Octets>,
 ) -> Result<(), Broken>
     requires { IsWithinBuffer step }
@@ -55,16 +78,19 @@ fn act_on(
         Step::Done(_) => lend_again(endpoint, connection),
         Step::Fault(fault) => {
             connection.end_by_fault();
-            told(add_fault(log, connection.stream, "fault", fault))
+            log.add_fault(connection.stream, connection.peer, "fault", fault);
+            Ok(())
         }
         Step::Terminated(fault) => {
             connection.end_by_fault();
-            told(add_fault(log, connection.stream, "terminated", fault))
+            log.add_fault(connection.stream, connection.peer, "terminated", fault);
+            Ok(())
         }
         Step::Closed(fault) => {
             connection.has_failed = true;
             connection.phase = Phase::Closed;
-            told(add_closed(log, connection.stream, fault))
+            log.add_closed(connection.stream, connection.peer, fault);
+            Ok(())
         }
         Step::Flushed(_)
         | Step::FlushedRecv(_)
@@ -78,22 +104,18 @@ fn act_on(
     }
 }
 
-// A line that cannot be told for want of memory ends its connection.
-fn told(line: Result<(), AllocError>) -> Result<(), Broken> {
-    match line {
-        Ok(()) => Ok(()),
-        Err(_) => Err(Broken),
-    }
-}
-
-// Accepts the peer's Request, with the STag of its region as private data.
-fn accept(endpoint: &mut Endpoint, connection: &Connection) -> Result<(), Broken>
-    ensures ok { OnOk result (endpoint.new ≡ accepted endpoint.old connection.now.stream (naming connection.now.region)) }
+// Accepts the peer's Request, with the STag of its region as private data: the stream is open.
+fn accept(endpoint: &mut Endpoint, connection: &mut Connection) -> Result<(), Broken>
+    ensures same { IsSame connection.old connection.new }
+    ensures ok { OnOk result (standing endpoint.new connection.new ≡ opened_as connection.old.stream connection.old.region (standing endpoint.old connection.old)) }
 {
     let mut private = PrivateData::new();
     let _ = private.try_extend_from_slice(&connection.region.to_octets());
     match endpoint.accept(connection.stream, private) {
-        Ok(_) => Ok(()),
+        Ok(_) => {
+            connection.phase = Phase::Running;
+            Ok(())
+        }
         Err(_) => Err(Broken),
     }
 }
@@ -103,7 +125,7 @@ fn receive(
     alloc: Global,
     endpoint: &mut Endpoint,
     connection: &mut Connection,
-    log: &mut String,
+    log: &mut Log,
     buffer: Octets,
     len: usize,
 ) -> Result<(), Broken>
@@ -112,10 +134,12 @@ fn receive(
     ensures answers { OnOk result (Answers connection.old.region connection.old.stream len endpoint.old endpoint.new) }
     ensures held { OnOk result (standing endpoint.new connection.new ≡ record (standing endpoint.new connection.old) { buffer = Some buffer; has_received = true }) }
 {
-    match add_received(alloc, log, connection.stream, &buffer.as_slice()[..len]) {
-        Ok(()) => {}
-        Err(_) => return Err(Broken),
-    }
+    log.add_received(
+        alloc,
+        connection.stream,
+        connection.peer,
+        &buffer.as_slice()[..len],
+    );
     connection.has_received = true;
     connection.buffer = Some(buffer.into_vec());
     answer(alloc, endpoint, connection, len)

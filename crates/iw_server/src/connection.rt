@@ -5,6 +5,7 @@ use crate::unwritten::Unwritten;
 use iw_connection::StreamNumber;
 use iw_endpoint::Stag;
 use std::alloc::Global;
+use std::net::SocketAddr;
 
 /// The connection is to be dropped: its socket failed, its peer asked too much of it, or memory ran out.
 #[derive(Clone, Copy, Debug, PartialEq, Eq)]
@@ -13,7 +14,9 @@ pub(crate) struct Broken;
 /// How far a connection is.
 #[derive(Clone, Copy, Debug, PartialEq, Eq)]
 pub(crate) enum Phase {
-    /// Its stream is starting or open.
+    /// Its stream is not open yet.
+    Starting,
+    /// Its stream is open.
     Running,
     /// Its stream has ended. A Terminate may be due.
     Ended,
@@ -32,6 +35,8 @@ pub(crate) struct Connection {
     pub(crate) region: Stag,
     /// The place of their domain.
     pub(crate) place: usize,
+    /// Its peer's address.
+    pub(crate) peer: SocketAddr,
     pub(crate) unwritten: Unwritten,
     /// The receive buffer, while a Send is answered.
     pub(crate) buffer: Option<Vec<u8>>,
@@ -41,8 +46,10 @@ pub(crate) struct Connection {
     pub(crate) has_received: bool,
     /// It did not go as it should.
     pub(crate) has_failed: bool,
-    /// When octets came or went last, in seconds.
-    pub(crate) heard: u64,
+    /// When it was accepted, in seconds.
+    pub(crate) begun: u64,
+    /// When something of use came or went last: an octet was placed, a Send was received, or the peer took octets.
+    pub(crate) moved: u64,
 }
 
 impl Connection {
@@ -52,6 +59,7 @@ impl Connection {
         stream: StreamNumber,
         region: Stag,
         place: usize,
+        peer: SocketAddr,
         now: u64,
     ) -> Connection
         ensures stream { result.stream ≡ stream }
@@ -63,13 +71,15 @@ impl Connection {
             stream,
             region,
             place,
+            peer,
             unwritten: Unwritten::new(alloc),
             buffer: None,
-            phase: Phase::Running,
+            phase: Phase::Starting,
             waits: Waits::Readable,
             has_received: false,
             has_failed: false,
-            heard: now,
+            begun: now,
+            moved: now,
         }
     }
 

@@ -11,9 +11,14 @@ const MOST_REGIONS: u16 = 1_024;
 // How many domains an endpoint may have.
 const MOST_DOMAINS: usize = 255;
 
-/// No domain has room for one more region, or memory ran out.
+/// Why a connection finds no room.
 #[derive(Clone, Copy, Debug, PartialEq, Eq)]
-pub(crate) struct NoRoom;
+pub(crate) enum NoRoom {
+    /// No domain has room for one more region, or memory ran out.
+    Full,
+    /// All numbers of streams were given.
+    Spent,
+}
 
 /// How many regions there are in each protection domain. A domain has a place, from 0 on, and its number is one more. The next
 /// domain is added once those before it are full.
@@ -71,17 +76,17 @@ impl Domains {
         }
         let place = self.counts.len();
         if place >= MOST_DOMAINS {
-            return Err(NoRoom);
+            return Err(NoRoom::Full);
         }
         if self.counts.reserve(1).is_err() {
-            return Err(NoRoom);
+            return Err(NoRoom::Full);
         }
         match endpoint.add_domain(number_at(place)) {
             Ok(()) => {
                 self.counts.push_reserved(0);
                 Ok(place)
             }
-            Err(_) => Err(NoRoom),
+            Err(_) => Err(NoRoom::Full),
         }
     }
 

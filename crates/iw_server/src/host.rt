@@ -1,6 +1,7 @@
 ghost use Rattle.std.specs.Io.KnownBytes.{Keeps};
 
 use std::io::{self, Read, Write};
+use std::net::SocketAddr;
 
 /// The socket of a connection. A read or a write that would wait fails with `WouldBlock`.
 pub trait Socket: Read + Write {
@@ -18,8 +19,8 @@ pub enum Waits {
 
 /// What a server stands on: where its connections come from, what tells which sockets are ready, and a clock.
 pub trait Host<S> {
-    /// The next connection. `WouldBlock` means that none waits.
-    fn accept(&mut self) -> io::Result<S>;
+    /// The next connection, and its peer's address. `WouldBlock` means that none waits.
+    fn accept(&mut self) -> io::Result<(S, SocketAddr)>;
 
     /// From now on [`Host::wait`] tells this key when the socket can be read. A socket that is dropped is watched no longer.
     fn watch(&mut self, socket: &mut S, key: usize) -> io::Result<()>;
@@ -34,4 +35,7 @@ pub trait Host<S> {
 
     /// The seconds of a clock that only goes forward.
     fn now(&mut self) -> io::Result<u64>;
+
+    /// 32 bits that no peer can foresee (RFC 5042 6.1.1).
+    fn draw(&mut self) -> io::Result<u32>;
 }

@@ -5,17 +5,19 @@
 //! and gets back as many octets of the region as the Send had.
 //!
 //! Nothing waits but [`Host::wait`]. What a socket does not take is kept at its connection, which is not read meanwhile. What a
-//! connection lacks ends that connection alone, and one that is silent for too long is dropped.
+//! connection lacks ends that connection alone, and one that opens no stream in time, or does nothing of use for too long, is dropped.
 #![tactic(auto)]
 
 mod acting;
 mod closing;
 mod connection;
 mod domains;
+mod effort;
 mod host;
-mod lines;
+mod log;
 mod opening;
 mod options;
+mod outlet;
 mod places;
 mod server;
 mod serving;
@@ -26,6 +28,7 @@ mod unwritten;
 
 pub use host::{Host, Socket, Waits};
 pub use options::{Request, USAGE, request_of};
+pub use outlet::Outlet;
 pub use serving::{MOST_READY, ServeFault, Tally, serve};
 pub use sockets::Sockets;
 pub use terms::Terms;

@@ -6,32 +6,45 @@ use crate::connection::Connection;
 use crate::domains::{Domains, NoRoom, number_at};
 use crate::terms::{Terms, config_of};
 use iw_connection::{Endpoint, StreamNumber};
-use iw_endpoint::{Rights, Role, Stag};
+use iw_endpoint::{OpenNextRefusal, Rights, Role, Stag};
 use std::alloc::Global;
+use std::net::SocketAddr;
 
-/// Opens a stream for a connection, with a receive buffer and a region that is registered for this stream alone, in a domain that has
-/// room for one. An `Err` leaves no connection, and may leave a domain that was added.
+/// Whose connection it is, and 32 bits for the STag of its region.
+#[derive(Clone, Copy, Debug, PartialEq, Eq)]
+pub(crate) struct Arrival {
+    pub(crate) peer: SocketAddr,
+    pub(crate) drawn: u32,
+    /// The second in which it was accepted.
+    pub(crate) now: u64,
+}
+
+/// Opens a stream for a connection, with a receive buffer and a region that is registered for this stream alone, under an STag that
+/// is drawn, in a domain that has room for one. An `Err` leaves no connection, and may leave a domain that was added; it is
+/// `Spent` if all numbers of streams were given.
 pub(crate) fn open(
     alloc: Global,
     endpoint: &mut Endpoint,
     domains: &mut Domains,
     terms: Terms,
-    now: u64,
+    arrival: Arrival,
 ) -> Result<Connection, NoRoom>
-    ensures opened { IfOk result (IsOpened terms domains.old domains.new endpoint.old endpoint.new) }
+    ensures opened { IfOk result (IsOpened terms arrival.drawn domains.old domains.new endpoint.old endpoint.new) }
     ensures err { OnErr result ((domains.new ≡ domains.old) ⊎ (domains.new ≡ domains.old ++ 0 ∷ [])) }
 {
     let place = match domains.with_room(endpoint) {
         Ok(place) => place,
         Err(refusal) => return Err(refusal),
     };
-    let Ok(stream) = endpoint.open_next(number_at(place), Role::Responder, config_of(terms)) else {
-        return Err(NoRoom);
+    let stream = match endpoint.open_next(number_at(place), Role::Responder, config_of(terms)) {
+        Ok(stream) => stream,
+        Err(OpenNextRefusal::NumbersSpent) => return Err(NoRoom::Spent),
+        Err(_) => return Err(NoRoom::Full),
     };
-    match prepare(alloc, endpoint, stream, terms.most) {
+    match prepare(alloc, endpoint, stream, terms.most, arrival.drawn) {
         Ok(region) => {
             domains.take(place);
-            Ok(Connection::new(alloc, stream, region, place, now))
+            Ok(Connection::new(alloc, stream, region, place, arrival.peer, arrival.now))
         }
         Err(refusal) => {
             let _ = end_stream(endpoint, stream);
@@ -46,13 +59,14 @@ fn prepare(
     endpoint: &mut Endpoint,
     stream: StreamNumber,
     most: usize,
+    drawn: u32,
 ) -> Result<Stag, NoRoom>
-    ensures ok { OnOk result (endpoint.new ≡ prepared endpoint.old stream most) }
-    ensures region { IfOk result (λ stag. stag ≡ region_for endpoint.old stream most) }
+    ensures ok { OnOk result (endpoint.new ≡ prepared endpoint.old stream most drawn) }
+    ensures region { IfOk result (λ stag. stag ≡ region_for endpoint.old stream most drawn) }
 {
     let buffer = zeroes(alloc, most)?;
     if endpoint.post_recv(stream, buffer).is_err() {
-        return Err(NoRoom);
+        return Err(NoRoom::Full);
     }
     let octets = zeroes(alloc, most)?;
     let rights = Rights {
@@ -61,9 +75,9 @@ fn prepare(
         sink: false,
         invalidate: false,
     };
-    match endpoint.register_for(stream, 0, octets, rights) {
+    match endpoint.register_drawn_for(stream, 0, octets, rights, drawn) {
         Ok(stag) => Ok(stag),
-        Err(_) => Err(NoRoom),
+        Err(_) => Err(NoRoom::Full),
     }
 }
 
@@ -73,6 +87,6 @@ fn zeroes(alloc: Global, count: usize) -> Result<Vec<u8>, NoRoom>
 {
     match vec![in alloc; 0u8; count] {
         Ok(octets) => Ok(octets),
-        Err(_) => Err(NoRoom),
+        Err(_) => Err(NoRoom::Full),
     }
 }

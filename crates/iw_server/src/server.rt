@@ -1,25 +1,26 @@
-ghost use Rattle.std.specs.Prelude.{◌≡◌, ◌≢◌, ◌<◌, ◌≤◌, ◌+◌, ◌-◌, ◌^◌, ℕ, IsSome, None, slice_set};
+ghost use Rattle.std.specs.Prelude.{◌≡◌, ◌≢◌, ◌<◌, ◌≤◌, ◌+◌, ◌-◌, ◌^◌, ℕ, IsSome, None, true, slice_set};
 ghost use Rattle.slab.specs.Slab.{get, slab_len};
-ghost use Rattle.iw_server.specs.Silence.{IsSilent};
+ghost use Rattle.iw_server.specs.Lateness.{IsLate, HasOpened};
 
 use crate::closing::close_connection;
-use crate::domains::Domains;
+use crate::connection::Connection;
+use crate::domains::{Domains, NoRoom};
 use crate::host::{Host, Socket};
-use crate::opening::open;
-use crate::places::{Place, is_silent, take_turn_at, watch};
+use crate::log::Log;
+use crate::opening::{Arrival, open};
+use crate::places::{Place, is_late, longest_starting, take_turn_at, watch};
 use crate::terms::Terms;
 use iw_endpoint::Endpoint;
-use iw_output::write_octets;
 use slab::Slab;
 use std::alloc::Global;
-use std::io::{ErrorKind, Write};
+use std::io::{self, ErrorKind, Write};
+use std::net::SocketAddr;
 
 // How many connections are accepted between two rounds of turns.
 const MOST_ACCEPTED: u32 = 64;
 
-/// The output failed.
-#[derive(Clone, Copy, Debug, PartialEq, Eq)]
-pub(crate) struct NoOutput;
+// The system's numbers for: its table of files is full, or the process has no descriptor left (ENFILE, EMFILE).
+const NO_DESCRIPTOR: [i32; 2] = [23, 24];
 
 /// An endpoint, and the connections that are served at it.
 #[derive(Drop)]
@@ -29,14 +30,15 @@ pub(crate) struct Server<S> {
     endpoint: Endpoint,
     domains: Domains,
     places: Slab<Place<S>>,
-    // What is to be printed.
-    log: String,
+    log: Log,
     // How many connections were begun, those included that found no room; and how many of them failed.
     pub(crate) begun: u64,
     pub(crate) failed: u64,
+    // No number of a stream is left: no connection is accepted any more.
+    pub(crate) is_spent: bool,
     // No connection is accepted before this second: the system had no descriptor left.
     resumes: u64,
-    // The second in which silent connections were looked for last.
+    // The second in which late connections were looked for last.
     looked: u64,
     // Each connection was begun, and fails once at most.
     ghost counted: { failed + slab_len places ≤ begun },
@@ -53,9 +55,10 @@ impl<S: Socket + Drop> Server<S> {
             endpoint: Endpoint::new(alloc),
             domains: Domains::new(alloc),
             places: Slab::new(alloc),
-            log: String::new(alloc),
+            log: Log::new(alloc, terms.quiet),
             begun: 0,
             failed: 0,
+            is_spent: false,
             resumes: 0,
             looked: 0,
         }
@@ -68,37 +71,39 @@ impl<S: Socket + Drop> Server<S> {
         self.places.len()
     }
 
-    /// Accepts connections that wait, until so many were begun. Returns whether more may wait.
+    /// Accepts connections that wait, until so many were begun. Returns whether more may wait. If there is no descriptor or no room
+    /// left, the connection that has waited longest for its stream to open gives way; one whose stream has opened never does.
     pub(crate) fn take_in<H: Host<S>>(&mut self, host: &mut H, count: u64, now: u64) -> bool
         requires { self.old.begun ≤ count }
         ensures begun { self.new.begun ≤ count }
-        ensures kept { (key : ℕ) → IsSome (get self.old.places key) → get self.new.places key ≡ get self.old.places key }
+        ensures kept { (key : ℕ) → HasOpened (get self.old.places key) → get self.new.places key ≡ get self.old.places key }
     {
         if now < self.resumes {
             return false;
         }
         'arrivals: for _ in 0..MOST_ACCEPTED {
-            if self.begun >= count {
+            if self.begun >= count || self.is_spent {
                 return false;
             }
             match host.accept() {
-                Ok(socket) => self.begin(host, socket, now),
-                Err(error) => return self.pass_over(error.kind(), now),
+                Ok((socket, peer)) => self.begin(host, socket, peer, now),
+                Err(error) => return self.pass_over(&error, now),
             }
         }
         true
     }
 
     // No connection was accepted. Returns whether more may wait.
-    fn pass_over(&mut self, kind: ErrorKind, now: u64) -> bool
+    fn pass_over(&mut self, error: &io::Error, now: u64) -> bool
         ensures begun { self.new.begun ≡ self.old.begun }
-        ensures same { self.new.places ≡ self.old.places }
+        ensures kept { (key : ℕ) → HasOpened (get self.old.places key) → get self.new.places key ≡ get self.old.places key }
     {
-        match kind {
+        match error.kind() {
             ErrorKind::WouldBlock => false,
             // It was gone before it was accepted.
             ErrorKind::ConnectionAborted => true,
             ErrorKind::Interrupted => true,
+            _ if lacks_descriptor(error) && self.make_room() => true,
             _ => {
                 self.resumes = now.saturating_add(1);
                 false
@@ -106,30 +111,88 @@ impl<S: Socket + Drop> Server<S> {
         }
     }
 
+    // Ends the connection that has waited longest for its stream to open. Returns whether there was one.
+    fn make_room(&mut self) -> bool
+        ensures begun { self.new.begun ≡ self.old.begun }
+        ensures kept { (key : ℕ) → HasOpened (get self.old.places key) → get self.new.places key ≡ get self.old.places key }
+    {
+        match longest_starting(&self.places) {
+            Some(key) => {
+                self.end(key, true);
+                true
+            }
+            None => false,
+        }
+    }
+
     // Begins to serve a connection. One that finds no room is closed at once.
-    fn begin<H: Host<S>>(&mut self, host: &mut H, socket: S, now: u64)
+    fn begin<H: Host<S>>(&mut self, host: &mut H, socket: S, peer: SocketAddr, now: u64)
+        requires { self.old.begun < 2 ^ 64 - 1 }
+        ensures begun { self.new.begun ≡ self.old.begun + 1 }
+        ensures kept { (key : ℕ) → HasOpened (get self.old.places key) → get self.new.places key ≡ get self.old.places key }
+    {
+        let Ok(drawn) = host.draw() else {
+            self.refuse();
+            return;
+        };
+        match self.open(Arrival { peer, drawn, now }) {
+            Ok(connection) => self.put(host, Place { connection, socket }),
+            Err(refusal) => {
+                self.note(refusal);
+                self.refuse();
+            }
+        }
+    }
+
+    // Opens a stream for a connection. If there is no room, one that has not opened gives way.
+    fn open(&mut self, arrival: Arrival) -> Result<Connection, NoRoom>
+        ensures begun { self.new.begun ≡ self.old.begun }
+        ensures kept { (key : ℕ) → HasOpened (get self.old.places key) → get self.new.places key ≡ get self.old.places key }
+    {
+        match self.try_open(arrival) {
+            Err(NoRoom::Full) if self.make_room() => self.try_open(arrival),
+            opened => opened,
+        }
+    }
+
+    fn try_open(&mut self, arrival: Arrival) -> Result<Connection, NoRoom>
+        ensures begun { self.new.begun ≡ self.old.begun }
+        ensures same { self.new.places ≡ self.old.places }
+    {
+        open(
+            self.alloc,
+            &mut self.endpoint,
+            &mut self.domains,
+            self.terms,
+            arrival,
+        )
+    }
+
+    // Puts a connection in its place, and has the host watch its socket. If there is no memory for the place, it is closed.
+    fn put<H: Host<S>>(&mut self, host: &mut H, place: Place<S>)
         requires { self.old.begun < 2 ^ 64 - 1 }
         ensures begun { self.new.begun ≡ self.old.begun + 1 }
         ensures kept { (key : ℕ) → IsSome (get self.old.places key) → get self.new.places key ≡ get self.old.places key }
     {
         if self.places.reserve(1).is_err() {
+            let _ = close_connection(&mut self.endpoint, &mut self.domains, &place.connection);
             self.refuse();
             return;
         }
-        let opened = open(
-            self.alloc,
-            &mut self.endpoint,
-            &mut self.domains,
-            self.terms,
-            now,
-        );
-        match opened {
-            Ok(connection) => {
-                let key = self.places.insert_reserved(Place { connection, socket });
-                self.begun += 1;
-                self.watch(host, key);
-            }
-            Err(_) => self.refuse(),
+        let key = self.places.insert_reserved(place);
+        self.begun += 1;
+        self.watch(host, key);
+    }
+
+    // If all numbers of streams were given, no more connections are accepted.
+    fn note(&mut self, refusal: NoRoom)
+        ensures begun { self.new.begun ≡ self.old.begun }
+        ensures same { self.new.places ≡ self.old.places }
+        ensures spent { refusal ≡ NoRoom.Spent → self.new.is_spent ≡ true }
+    {
+        if refusal == NoRoom::Spent {
+            self.is_spent = true;
+            self.log.add_spent();
         }
     }
 
@@ -188,36 +251,44 @@ impl<S: Socket + Drop> Server<S> {
         }
     }
 
-    /// Drops each connection on which nothing went for too long. It looks at them once a second.
-    pub(crate) fn drop_silent(&mut self, now: u64)
+    /// Drops each connection that is late. It looks at them once a second.
+    pub(crate) fn drop_late(&mut self, now: u64)
         ensures begun { self.new.begun ≡ self.old.begun }
-        ensures kept { (key : ℕ) → ¬ IsSilent self.old.terms.idle now (get self.old.places key) → get self.new.places key ≡ get self.old.places key }
-        ensures dropped { now ≢ self.old.looked → (key : ℕ) → ¬ IsSilent self.old.terms.idle now (get self.new.places key) }
+        ensures kept { (key : ℕ) → ¬ IsLate self.old.terms now (get self.old.places key) → get self.new.places key ≡ get self.old.places key }
+        ensures dropped { now ≢ self.old.looked → (key : ℕ) → ¬ IsLate self.old.terms now (get self.new.places key) }
     {
         if now == self.looked {
             return;
         }
         self.looked = now;
         'keys: for key in 0..self.places.capacity() {
-            if is_silent(&self.places, key, self.terms.idle, now) {
+            if is_late(&self.places, key, self.terms, now) {
                 self.end(key, true);
             }
         }
     }
 
-    /// Prints what there is to print.
-    pub(crate) fn print<W: Write>(&mut self, output: &mut W) -> Result<(), NoOutput>
+    /// Prints what there is to print, as far as the output takes it.
+    pub(crate) fn print<W: Write>(&mut self, output: &mut W)
         ensures { self.new.begun ≡ self.old.begun }
     {
-        if self.log.is_empty() {
-            return Ok(());
+        self.log.print(output);
+    }
+
+    /// As [`Server::print`], if there is much.
+    pub(crate) fn print_if_long<W: Write>(&mut self, output: &mut W)
+        ensures { self.new.begun ≡ self.old.begun }
+    {
+        if self.log.is_long() {
+            self.log.print(output);
         }
-        let is_printed = write_octets(output, self.log.as_bytes()).is_ok();
-        self.log.clear();
-        if is_printed && output.flush().is_ok() {
-            Ok(())
-        } else {
-            Err(NoOutput)
-        }
+    }
+}
+
+// Whether the system, or the process, has no descriptor left.
+fn lacks_descriptor(error: &io::Error) -> bool {
+    match error.raw_os_error() {
+        Some(number) => NO_DESCRIPTOR.contains(&number),
+        None => false,
     }
 }

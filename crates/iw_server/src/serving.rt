@@ -16,9 +16,9 @@ pub enum ServeFault {
     /// The host could not wait, or has no clock.
     #[error("the host could not wait, or has no clock")]
     Host,
-    /// The output failed.
-    #[error("the output failed")]
-    Output,
+    /// All numbers of streams were given. The connections that were open are over.
+    #[error("no stream number is left")]
+    NumbersSpent,
     /// Out of memory, before the first connection.
     #[error("no memory before the first connection")]
     NoMemory,
@@ -34,7 +34,13 @@ pub struct Tally {
 }
 
 /// Serves so many connections, as many at once as there are, and prints a line for each Send that came and for each fault that ended a
-/// stream. It returns once they are over.
+/// stream, with the peer's address. It returns once they are over.
+///
+/// What the output does not take waits for it, 65,536 octets at most; further lines are dropped, and a line tells how many once it
+/// takes octets again. So an output that fails, or whose writes fail with `WouldBlock`, holds up nothing and ends nothing.
+///
+/// An `Err` is `Host` if the host cannot wait or has no clock: connections may be left. `NumbersSpent` comes once 2^32 - 64 streams
+/// were opened and the last of them is over. `NoMemory` comes before the first connection.
 pub fn serve<S: Socket + Drop, H: Host<S>, W: Write>(
     alloc: Global,
     terms: Terms,
@@ -72,6 +78,9 @@ fn serve_all<S: Socket + Drop, H: Host<S>, W: Write>(
                 failed: server.failed,
             });
         }
+        if server.is_spent && server.live() == 0 {
+            return Err(ServeFault::NumbersSpent);
+        }
         match serve_round(server, count, host, ready, seconds, print) {
             Ok(more) => seconds = if more { 0 } else { 1 },
             Err(fault) => return Err(fault),
@@ -80,7 +89,7 @@ fn serve_all<S: Socket + Drop, H: Host<S>, W: Write>(
     Err(ServeFault::Host)
 }
 
-// Waits, gives each connection that is ready a turn, accepts others, and drops those that are silent. Returns whether more may be
+// Waits, gives each connection that is ready a turn, accepts others, and drops those that are late. Returns whether more may be
 // accepted.
 fn serve_round<S: Socket + Drop, H: Host<S>, W: Write>(
     server: &mut Server<S>,
@@ -101,11 +110,10 @@ fn serve_round<S: Socket + Drop, H: Host<S>, W: Write>(
     };
     'turns: for key in ready.iter() {
         server.take_turn(host, *key, now);
+        server.print_if_long(print);
     }
     let more = server.take_in(host, count, now);
-    server.drop_silent(now);
-    match server.print(print) {
-        Ok(()) => Ok(more),
-        Err(_) => Err(ServeFault::Output),
-    }
+    server.drop_late(now);
+    server.print(print);
+    Ok(more)
 }

@@ -1,14 +1,21 @@
 use crate::host::{Host, Socket, Waits};
 use crate::serving::MOST_READY;
+use libc::net as c;
 use mio::net::{TcpListener, TcpStream};
 use mio::{Events, Interest, Poll, Token};
 use std::alloc::Global;
 use std::io::{self, ErrorKind};
 use std::net::{Ipv4Addr, Net, Shutdown, SocketAddr};
+use std::os::fd::{AsRawFd, RawFd};
+use std::random::RandomSource;
 use std::time::{Clock, Duration};
 
 // The token of the listener. No connection has this key.
 const LISTENER: Token = Token(usize::MAX);
+
+// How many octets the kernel is asked to keep for a connection, each way. Linux takes twice as many, for what it keeps with them,
+// and no more than twice net.core.wmem_max and rmem_max.
+const KERNEL_OCTETS: u32 = 262_144;
 
 impl Socket for TcpStream {
     fn end(&mut self) -> io::Result<()> {
@@ -24,20 +31,32 @@ pub struct Sockets<'a, C> {
     listener: TcpListener,
     // A connection may wait to be accepted.
     has_arrivals: bool,
-    clock: &'a C,
+    system: &'a C,
 }
 
-impl<'a, C: Clock> Sockets<'a, C> {
-    /// Listens on 127.0.0.1, at any free port if `port` is 0.
+// Sets how many octets the kernel keeps for each connection of a listener, which accepted sockets take over.
+fn limit_kernel(fd: RawFd) {
+    let mut value = [0u8; 16];
+    value[..4].copy_from_slice(&KERNEL_OCTETS.to_ne_bytes());
+    unsafe {
+        c::setsockopt(fd, c::SOL_SOCKET, c::SO_SNDBUF, &value, 4);
+        c::setsockopt(fd, c::SOL_SOCKET, c::SO_RCVBUF, &value, 4);
+    }
+}
+
+impl<'a, C: Clock + RandomSource> Sockets<'a, C> {
+    /// Listens on 127.0.0.1, at any free port if `port` is 0. The kernel is asked to keep no more than 262,144 octets of a connection
+    /// each way, beside what it keeps with them. `system` has the clock, and the source of random numbers.
     pub fn bind<N: Net>(
         alloc: Global,
         net: &N,
-        clock: &'a C,
+        system: &'a C,
         port: u16,
     ) -> io::Result<Sockets<'a, C>> {
         let poll = Poll::new(net)?;
         let address = SocketAddr::from((Ipv4Addr::LOCALHOST, port));
         let mut listener = TcpListener::bind(net, address)?;
+        limit_kernel(listener.as_raw_fd());
         poll.registry()
             .register(&mut listener, LISTENER, Interest::READABLE)?;
         Ok(Sockets {
@@ -45,7 +64,7 @@ impl<'a, C: Clock> Sockets<'a, C> {
             events: Events::with_capacity(alloc, MOST_READY)?,
             listener,
             has_arrivals: false,
-            clock,
+            system,
         })
     }
 
@@ -62,15 +81,15 @@ fn interest_of(waits: Waits) -> Interest {
     }
 }
 
-impl<C: Clock> Host<TcpStream> for Sockets<'_, C> {
-    fn accept(&mut self) -> io::Result<TcpStream> {
+impl<C: Clock + RandomSource> Host<TcpStream> for Sockets<'_, C> {
+    fn accept(&mut self) -> io::Result<(TcpStream, SocketAddr)> {
         if !self.has_arrivals {
             return Err(io::Error::from(ErrorKind::WouldBlock));
         }
         match self.listener.accept() {
-            Ok((stream, _)) => {
+            Ok((stream, peer)) => {
                 let _ = stream.set_nodelay(true);
-                Ok(stream)
+                Ok((stream, peer))
             }
             Err(error) => {
                 self.has_arrivals = error.kind() != ErrorKind::WouldBlock;
@@ -107,6 +126,12 @@ impl<C: Clock> Host<TcpStream> for Sockets<'_, C> {
     }
 
     fn now(&mut self) -> io::Result<u64> {
-        Ok(self.clock.monotonic()?.as_secs())
+        Ok(self.system.monotonic()?.as_secs())
+    }
+
+    fn draw(&mut self) -> io::Result<u32> {
+        let mut octets = [0u8; 4];
+        self.system.fill_bytes(&mut octets)?;
+        Ok(u32::from_ne_bytes(octets))
     }
 }

@@ -14,8 +14,14 @@ pub struct Terms {
     pub enhanced: bool,
     /// How many octets a peer's region has, and its longest Send.
     pub most: usize,
-    /// A connection on which nothing went for more seconds than this is dropped.
-    pub idle: u64,
+    /// A connection whose stream is not open so many seconds after it was accepted is dropped, whatever octets came (RFC 5044
+    /// 7.1.2, rule 10).
+    pub start: u64,
+    /// A connection on which nothing of use went for more seconds than this is dropped: no octet was placed, no Send received, and
+    /// none of what is due taken.
+    pub stall: u64,
+    /// No line is printed.
+    pub quiet: bool,
 }
 
 /// What the Reply asks for.

@@ -6,12 +6,13 @@ ghost use Rattle.iw_endpoint.specs.Endpoint.{EndpointState, has_due};
 ghost use Rattle.iw_endpoint.specs.Reading.{Took};
 ghost use Rattle.iw_server.specs.declared.host.Waits.{Waits};
 ghost use Rattle.iw_server.specs.Unwritten.{Takes, Gathers};
-ghost use Rattle.iw_server.specs.Acting.{IsSame, standing, ActsAll};
+ghost use Rattle.iw_server.specs.Acting.{IsSame, standing, ActsAll, ActsOn};
 ghost use Rattle.iw_server.specs.Turns.{GoesOn, Writes, TakesTurn};
 
 use crate::acting::act;
 use crate::connection::{Broken, Connection, Phase};
 use crate::host::{Socket, Waits};
+use crate::log::Log;
 use iw_connection::{CallRefusal, Endpoint, Filled, Intake, take_some};
 use std::alloc::Global;
 use std::io::ErrorKind;
@@ -38,6 +39,8 @@ enum Heard {
     Nothing,
     // Octets, and all that they ask for is done.
     Octets,
+    // Octets, and more is to be done than a turn has room for.
+    More,
     // The peer has closed.
     End,
 }
@@ -53,7 +56,7 @@ pub(crate) fn take_turn<S: Socket>(
     endpoint: &mut Endpoint,
     connection: &mut Connection,
     socket: &mut S,
-    log: &mut String,
+    log: &mut Log,
     now: u64,
 ) -> Turn
     ensures on { GoesOn connection.old connection.new }
@@ -84,7 +87,7 @@ fn listen<S: Socket>(
     endpoint: &mut Endpoint,
     connection: &mut Connection,
     socket: &mut S,
-    log: &mut String,
+    log: &mut Log,
     now: u64,
 ) -> Result<Turn, Broken>
     ensures on { GoesOn connection.old connection.new }
@@ -93,6 +96,8 @@ fn listen<S: Socket>(
 {
     match hear(alloc, endpoint, connection, socket, log, now) {
         Ok(Heard::Octets) => speak(alloc, endpoint, connection, socket, log, now),
+        // A socket that can be written is ready at once: the next turn goes on.
+        Ok(Heard::More) => Ok(Turn::Waits(Waits::Writable)),
         Ok(Heard::Nothing) => Ok(Turn::Waits(Waits::Readable)),
         Ok(Heard::End) => Ok(Turn::Over),
         Err(broken) => Err(broken),
@@ -106,13 +111,17 @@ fn hear<S: Socket>(
     endpoint: &mut Endpoint,
     connection: &mut Connection,
     socket: &mut S,
-    log: &mut String,
+    log: &mut Log,
     now: u64,
 ) -> Result<Heard, Broken>
     ensures same { IsSame connection.old connection.new }
     ensures came { result ≡ Ok Heard.Octets → (n : ℕ) × (at : EndpointState) ×
         Took endpoint.old at connection.old.stream (S.remaining socket.old) (S.remaining socket.new) n ×
         ActsAll connection.old.region connection.old.stream
+        (standing at connection.old) (standing endpoint.new connection.new) }
+    ensures more { result ≡ Ok Heard.More → (n : ℕ) × (at : EndpointState) ×
+        Took endpoint.old at connection.old.stream (S.remaining socket.old) (S.remaining socket.new) n ×
+        ActsOn connection.old.region connection.old.stream
         (standing at connection.old) (standing endpoint.new connection.new) }
     ensures nothing { result ≡ Ok Heard.Nothing → (connection.old.phase ≡ Phase.Shut) ⊎ ((endpoint.new ≡ endpoint.old) × Keeps (S.remaining socket.old) (S.remaining socket.new)) }
     ensures end { result ≡ Ok Heard.End → (endpoint.new ≡ endpoint.old) × IsAtEnd (S.remaining socket.new) }
@@ -122,9 +131,9 @@ fn hear<S: Socket>(
             if connection.phase == Phase::Shut {
                 return Ok(Heard::Nothing);
             }
-            connection.heard = now;
-            match act(alloc, endpoint, connection, log) {
-                Ok(()) => Ok(Heard::Octets),
+            match act(alloc, endpoint, connection, log, now) {
+                Ok(true) => Ok(Heard::Octets),
+                Ok(false) => Ok(Heard::More),
                 Err(broken) => Err(broken),
             }
         }
@@ -147,7 +156,7 @@ fn speak<S: Socket>(
     endpoint: &mut Endpoint,
     connection: &mut Connection,
     socket: &mut S,
-    log: &mut String,
+    log: &mut Log,
     now: u64,
 ) -> Result<Turn, Broken>
     ensures on { GoesOn connection.old connection.new }
@@ -167,7 +176,7 @@ fn after_writing<S: Socket>(connection: &mut Connection, socket: &mut S) -> Resu
     ensures contents { Keeps (S.contents socket.old) (S.contents socket.new) }
 {
     match connection.phase {
-        Phase::Running | Phase::Shut => Ok(Turn::Waits(Waits::Readable)),
+        Phase::Starting | Phase::Running | Phase::Shut => Ok(Turn::Waits(Waits::Readable)),
         Phase::Closed => Ok(Turn::Over),
         Phase::Ended => {
             connection.phase = Phase::Shut;
@@ -185,7 +194,7 @@ fn write_some<S: Socket>(
     endpoint: &mut Endpoint,
     connection: &mut Connection,
     socket: &mut S,
-    log: &mut String,
+    log: &mut Log,
     now: u64,
 ) -> Result<bool, Broken>
     ensures on { GoesOn connection.old connection.new }
@@ -197,7 +206,7 @@ fn write_some<S: Socket>(
         Err(broken) => return Err(broken),
     }
     match write_out(connection, socket, now) {
-        Ok(true) => settle(alloc, endpoint, connection, log),
+        Ok(true) => settle(alloc, endpoint, connection, log, now),
         Ok(false) => Ok(false),
         Err(broken) => Err(broken),
     }
@@ -238,7 +247,7 @@ fn write_out<S: Socket>(
     let before = connection.unwritten.len();
     let written = connection.unwritten.write_to(socket);
     if connection.unwritten.len() < before {
-        connection.heard = now;
+        connection.moved = now;
     }
     match written {
         Ok(is_all) => Ok(is_all),
@@ -246,20 +255,22 @@ fn write_out<S: Socket>(
     }
 }
 
-// All that was emitted is written: what was posted may be done. Returns whether nothing more is due.
+// All that was emitted is written: what was posted may be done. Returns whether nothing is left to do, and nothing more is due.
 fn settle(
     alloc: Global,
     endpoint: &mut Endpoint,
     connection: &mut Connection,
-    log: &mut String,
+    log: &mut Log,
+    now: u64,
 ) -> Result<bool, Broken>
     ensures same { IsSame connection.old connection.new }
-    ensures ok { OnOk result (ActsAll connection.old.region connection.old.stream
-        (standing endpoint.old connection.old) (standing endpoint.new connection.new)) }
+    ensures all { result ≡ Ok true → ActsAll connection.old.region connection.old.stream
+        (standing endpoint.old connection.old) (standing endpoint.new connection.new) }
     ensures due { result ≡ Ok true → has_due endpoint.new connection.old.stream ≡ false }
 {
-    match act(alloc, endpoint, connection, log) {
-        Ok(()) => {}
+    match act(alloc, endpoint, connection, log, now) {
+        Ok(true) => {}
+        Ok(false) => return Ok(false),
         Err(broken) => return Err(broken),
     }
     match endpoint.has_due(connection.stream) {

@@ -1,13 +1,14 @@
-//! A server of many connections over TCP: `server COUNT [OPTIONS [PORT]]`.
+//! A server of many connections over TCP: `server COUNT [OPTIONS [PORT]] [--start SECONDS] [--stall SECONDS] [--quiet]`.
 #![tactic(auto)]
 
 ghost use Rattle.std.specs.Prelude.{◌≡◌, ◌≢◌};
 
-use iw_server::{Request, ServeFault, Sockets, Tally, Terms, USAGE, request_of, serve};
+use iw_server::{Outlet, Request, ServeFault, Sockets, Tally, Terms, USAGE, request_of, serve};
 use std::env;
 use std::io::{self, ErrorKind};
 use std::net::Net;
 use std::process::ExitCode;
+use std::random::RandomSource;
 use std::rt::Runtime;
 
 // The words behind the program's name.
@@ -34,12 +35,12 @@ fn status_of_fault(fault: ServeFault) -> u8
 {
     match fault {
         ServeFault::NoMemory => 2,
-        ServeFault::Host | ServeFault::Output => 1,
+        ServeFault::Host | ServeFault::NumbersSpent => 1,
     }
 }
 
 // Serves so many connections at a port, and returns the exit status.
-fn listen<R: Runtime + AllocGlobal + Net>(
+fn listen<R: Runtime + AllocGlobal + Net + RandomSource>(
     rt: &R,
     count: u64,
     terms: Terms,
@@ -49,7 +50,8 @@ fn listen<R: Runtime + AllocGlobal + Net>(
     let bound = sockets.port()?;
     println!(rt; "port {bound}")?;
     let count = if count == 0 { u64::MAX } else { count };
-    match serve(rt.alloc(), terms, count, &mut sockets, &mut io::writer(rt)) {
+    let mut output = Outlet::new(io::writer(rt));
+    match serve(rt.alloc(), terms, count, &mut sockets, &mut output) {
         Ok(tally) => Ok(status_of(tally)),
         Err(fault) => {
             eprintln!(rt; "server: {fault}")?;
@@ -58,7 +60,7 @@ fn listen<R: Runtime + AllocGlobal + Net>(
     }
 }
 
-fn run<R: Runtime + AllocGlobal + Net>(rt: &R) -> io::Result<u8> {
+fn run<R: Runtime + AllocGlobal + Net + RandomSource>(rt: &R) -> io::Result<u8> {
     let words = words(rt)?;
     match request_of(&words) {
         Some(Request::Help) => {

@@ -7,6 +7,7 @@ use std::alloc::Global;
 use std::io::{self, Read, Write};
 use std::net::{Ipv4Addr, Net, Shutdown, SocketAddr};
 use std::process::Abort;
+use std::random::RandomSource;
 use std::test::Fail;
 use std::time::Clock;
 
@@ -22,7 +23,9 @@ const TERMS: Terms = Terms {
     crc: true,
     enhanced: false,
     most: 64,
-    idle: 60,
+    start: 10,
+    stall: 60,
+    quiet: false,
 };
 
 // How many of these octets the socket takes.
@@ -92,8 +95,8 @@ struct Town<'a, C> {
     clients: Vec<Client>,
 }
 
-impl<C: Clock> Host<TcpStream> for Town<'_, C> {
-    fn accept(&mut self) -> io::Result<TcpStream> {
+impl<C: Clock + RandomSource> Host<TcpStream> for Town<'_, C> {
+    fn accept(&mut self) -> io::Result<(TcpStream, SocketAddr)> {
         self.sockets.accept()
     }
 
@@ -115,9 +118,13 @@ impl<C: Clock> Host<TcpStream> for Town<'_, C> {
     fn now(&mut self) -> io::Result<u64> {
         self.sockets.now()
     }
+
+    fn draw(&mut self) -> io::Result<u32> {
+        self.sockets.draw()
+    }
 }
 
-fn new_town<'a, N: Net, C: Clock>(
+fn new_town<'a, N: Net, C: Clock + RandomSource>(
     alloc: Global,
     net: &N,
     clock: &'a C,
@@ -139,7 +146,7 @@ fn count_answered(clients: &[Client]) -> usize {
         .count()
 }
 
-fn check_served<R: Abort + AllocGlobal + Net + Clock>(rt: &R) -> Result<(), Fail> {
+fn check_served<R: Abort + AllocGlobal + Net + Clock + RandomSource>(rt: &R) -> Result<(), Fail> {
     let mut town = new_town(rt.alloc(), rt, rt)?;
     let mut text = Vec::new(rt.alloc());
     let Ok(tally) = serve(rt.alloc(), TERMS, CLIENTS, &mut town, &mut text) else {

@@ -1,9 +1,10 @@
 //! Servers of many connections at once.
 
-use crate::crowd::Crowd;
+use crate::crowd::{Crowd, Idling};
 use crate::peer::Asks;
 use iw_server::{Tally, Terms, serve};
 use std::alloc::Global;
+use std::io::{self, ErrorKind, Write};
 use std::process::Abort;
 use std::test::Fail;
 
@@ -17,21 +18,26 @@ const BOTH: Asks = Asks {
     crc: true,
 };
 
-fn terms(idle: u64) -> Terms {
+// So many seconds are never over.
+const EVER: u64 = 1_000_000;
+
+fn terms(start: u64, stall: u64) -> Terms {
     Terms {
         markers: false,
         crc: false,
         enhanced: false,
         most: 64,
-        idle,
+        start,
+        stall,
+        quiet: false,
     }
 }
 
 // Serves a crowd. Returns how many connections there were, and how many lines were printed.
-fn served(alloc: Global, crowd: &mut Crowd, idle: u64) -> Result<(Tally, usize), Fail> {
+fn served(alloc: Global, crowd: &mut Crowd, terms: Terms) -> Result<(Tally, usize), Fail> {
     let mut text = Vec::new(alloc);
     let count = u64::from(crowd.count);
-    match serve(alloc, terms(idle), count, crowd, &mut text) {
+    match serve(alloc, terms, count, crowd, &mut text) {
         Ok(tally) => Ok((tally, text.iter().filter(|octet| **octet == b'\n').count())),
         Err(_) => Err("not served".into()),
     }
@@ -46,7 +52,7 @@ fn check_all<R: Abort + AllocGlobal>(
     domains: u8,
 ) -> Result<(), Fail> {
     let mut crowd = Crowd::new(rt.alloc(), asks, most, count);
-    let (tally, lines) = served(rt.alloc(), &mut crowd, 1_000_000)?;
+    let (tally, lines) = served(rt.alloc(), &mut crowd, terms(EVER, EVER))?;
     assert!(rt; tally.begun == u64::from(count));
     assert!(rt; tally.failed == 0);
     assert!(rt; crowd.answered == count);
@@ -66,15 +72,110 @@ fn few_octets_at_a_time(rt: HostRuntime) -> Result<(), Fail> {
     check_all(&rt, BOTH, 3, 100, 1)
 }
 
-// Each is dropped once nothing went on it for longer than it may be silent.
-#[test]
-fn silent_peers_are_dropped(rt: HostRuntime) -> Result<(), Fail> {
-    let mut crowd = Crowd::new(rt.alloc(), PLAIN, 64, 100);
+// Has peers that ask for nothing. Returns how many still had their connection in second 200.
+fn outlasting<R: Abort + AllocGlobal>(
+    rt: &R,
+    idling: Idling,
+    most: usize,
+    terms: Terms,
+) -> Result<u32, Fail> {
+    let mut crowd = Crowd::new(rt.alloc(), PLAIN, most, 20);
     crowd.is_silent = true;
-    let (tally, lines) = served(rt.alloc(), &mut crowd, 60)?;
-    assert!(rt; tally.begun == 100);
-    assert!(rt; tally.failed == 100);
+    crowd.idling = idling;
+    let (tally, lines) = served(rt.alloc(), &mut crowd, terms)?;
+    assert!(rt; tally.begun == 20);
+    assert!(rt; tally.failed == 20);
     assert!(rt; lines == 0);
+    Ok(crowd.outlasted)
+}
+
+// Each is dropped once nothing of use went on it for longer than it may.
+#[test]
+fn useless_peers_are_dropped(rt: HostRuntime) -> Result<(), Fail> {
+    assert!(rt; outlasting(&rt, Idling::Silent, 512, terms(EVER, 60))? == 0);
+    assert!(rt; outlasting(&rt, Idling::WritesNothing, 512, terms(EVER, 60))? == 0);
+    assert!(rt; outlasting(&rt, Idling::WritesOctet, 512, terms(EVER, 60))? == 20);
+    Ok(())
+}
+
+// A Request that comes an octet at a time renews nothing.
+#[test]
+fn slow_starts_are_dropped(rt: HostRuntime) -> Result<(), Fail> {
+    assert!(rt; outlasting(&rt, Idling::Silent, 1, terms(10, EVER))? == 0);
+    assert!(rt; outlasting(&rt, Idling::Silent, 1, terms(EVER, EVER))? == 20);
+    Ok(())
+}
+
+// Where no descriptor is left, those that have waited longest for their stream to open give way, and the others are served.
+#[test]
+fn mute_peers_give_way(rt: HostRuntime) -> Result<(), Fail> {
+    let mut crowd = Crowd::new(rt.alloc(), PLAIN, 64, 60);
+    crowd.mute = 30;
+    crowd.shortages = 30;
+    let (tally, lines) = served(rt.alloc(), &mut crowd, terms(EVER, EVER))?;
+    assert!(rt; tally.begun == 60);
+    assert!(rt; tally.failed == 30);
+    assert!(rt; crowd.answered == 30);
+    assert!(rt; lines == 30);
+    Ok(())
+}
+
+/// An output that takes nothing at first.
+#[derive(Drop)]
+struct Clogged {
+    text: Vec<u8>,
+    refusals: u32,
+}
+
+impl Write for Clogged {
+    fn write(&mut self, buf: &[u8]) -> io::Result<usize> {
+        if self.refusals > 0 {
+            self.refusals = self.refusals.saturating_sub(1);
+            return Err(io::Error::from(ErrorKind::WouldBlock));
+        }
+        self.text.write(buf)
+    }
+
+    fn flush(&mut self) -> io::Result<()> {
+        Ok(())
+    }
+}
+
+// How many lines these tell of: each of one, or of those that were dropped.
+fn count_told(text: &str) -> usize {
+    let mut told = 0usize;
+    for line in text.lines() {
+        let dropped = match line.strip_suffix(" lines dropped") {
+            Some(number) => number.parse().unwrap_or(0),
+            None => 1,
+        };
+        told = told.saturating_add(dropped);
+    }
+    told
+}
+
+// An output that takes nothing holds up nobody, and each line is printed or counted.
+#[test]
+fn lines_are_dropped_and_counted(rt: HostRuntime) -> Result<(), Fail> {
+    let mut crowd = Crowd::new(rt.alloc(), PLAIN, 64, 3_000);
+    let mut output = Clogged {
+        text: Vec::new(rt.alloc()),
+        refusals: 2_000,
+    };
+    let Ok(tally) = serve(
+        rt.alloc(),
+        terms(EVER, EVER),
+        3_000,
+        &mut crowd,
+        &mut output,
+    ) else {
+        return Err("not served".into());
+    };
+    assert!(rt; tally.failed == 0);
+    assert!(rt; crowd.answered == 3_000);
+    let text = str::from_utf8(output.text.as_slice())?;
+    assert!(rt; text.contains(" lines dropped"));
+    assert!(rt; count_told(text) == 3_000);
     Ok(())
 }
 
@@ -83,7 +184,7 @@ fn silent_peers_are_dropped(rt: HostRuntime) -> Result<(), Fail> {
 fn failed_sockets_end_alone(rt: HostRuntime) -> Result<(), Fail> {
     let mut crowd = Crowd::new(rt.alloc(), BOTH, 64, 90);
     crowd.has_broken = true;
-    let (tally, lines) = served(rt.alloc(), &mut crowd, 1_000_000)?;
+    let (tally, lines) = served(rt.alloc(), &mut crowd, terms(EVER, EVER))?;
     assert!(rt; tally.begun == 90);
     assert!(rt; tally.failed == 30);
     assert!(rt; crowd.answered == 60);

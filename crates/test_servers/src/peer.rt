@@ -110,6 +110,20 @@ impl Peer {
         self.emit();
     }
 
+    /// Writes octets into the region.
+    pub(crate) fn write(&mut self, octets: &'static [u8]) {
+        let Some(stag) = self.region else {
+            return;
+        };
+        self.post(Message::Write {
+            stag,
+            to: 0,
+            octets: Bytes::from_static(octets),
+        });
+        self.emit();
+        self.work();
+    }
+
     fn post(&mut self, message: Message<Bytes>) {
         if self
             .endpoint

@@ -1,10 +1,10 @@
 use Rattle.std.proofs.Common.{◌≡◌, ◌≤◌, ℕ}
-use Rattle.std.specs.Prelude.{IsSome}
 use Rattle.slab.specs.Slab.{get}
+use Rattle.iw_server.specs.Lateness.{HasOpened}
 use Rattle.iw_server.proofs.server.Server.take_in.Given as goal
 
 abbrev pub invariant-arrivals : goal.invariant-arrivals
 invariant-arrivals g l = record {
   begun : l.self.begun ≤ l.count;
-  kept : (key : ℕ) → IsSome (get l.fn.self.places key) → get l.self.places key ≡ get l.fn.self.places key;
+  kept : (key : ℕ) → HasOpened (get l.fn.self.places key) → get l.self.places key ≡ get l.fn.self.places key;
 }

@@ -2,20 +2,20 @@ use Rattle.std.proofs.Common.{◌∙◌, refl, sym, ap, subst, arith, length}
 use Rattle.std.proofs.lemmas.Bool.{true≢false}
 use Rattle.std.proofs.lemmas.List.{length-set}
 use Rattle.slab.specs.Slab.{get}
-use Rattle.iw_server.specs.Silence.{IsSilent}
+use Rattle.iw_server.specs.Lateness.{IsLate}
 use Rattle.iw_server.proofs.Swept.{sweep_keeps, sweep_drops, spared}
-use Rattle.iw_server.proofs.server.Server.drop_silent.Goals as goal
-use Rattle.iw_server.proofs.server.Server.drop_silent.Goals.{then-is_silent, else-is_silent}
+use Rattle.iw_server.proofs.server.Server.drop_late.Goals as goal
+use Rattle.iw_server.proofs.server.Server.drop_late.Goals.{then-is_late, else-is_late}
 
 pub keys-preserved : goal.keys-preserved
 keys-preserved g c =
     let inv = c.keys.invariant in
     let now = c.args.now in
     let places = c.keys.self.places in
-    elim c.if-is_silent.branch [
-      | then-is_silent w ↦
+    elim c.if-is_late.branch [
+      | then-is_late w ↦
           let gone = w.end.ensures.gone in
-          let silent = subst (λ t. IsSilent t.idle now (get places c.keys.key)) inv.terms (w.if-is_silent.ensures.0 refl) in
+          let silent = subst (λ t. IsLate t now (get places c.keys.key)) inv.terms (w.if-is_late.ensures.0 refl) in
           rw w.self-is (record {
             begun = w.end.ensures.begun ∙ inv.begun;
             terms = w.end.ensures.terms ∙ inv.terms;
@@ -23,8 +23,8 @@ keys-preserved g c =
             dropped = sweep_drops _ now _ _ _ gone inv.dropped;
             slots = omega (arith, inv.slots, simp length-set at (ap length gone));
           })
-      | else-is_silent w ↦
-          let alive = subst (λ t. ¬ IsSilent t.idle now (get places c.keys.key)) inv.terms (λ silent. true≢false (sym (w.if-is_silent.ensures.1 silent))) in
+      | else-is_late w ↦
+          let alive = subst (λ t. ¬ IsLate t now (get places c.keys.key)) inv.terms (λ silent. true≢false (sym (w.if-is_late.ensures.1 silent))) in
           rw w.self-is (record {
             begun = inv.begun;
             terms = inv.terms;
