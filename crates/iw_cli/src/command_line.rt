@@ -14,8 +14,8 @@ Example: iwarp replay < examples/first.schedule";
 
 const LISTEN_HELP: &str = "\
 All connections share one region of 65536 octets, zero at the start: a later peer may get back what an earlier one
-wrote. Connections are served one after the other: a peer that stays silent blocks the command for ever. A start-up
-frame at fault closes its connection at once.
+wrote. Connections are served one after the other: a peer that has started up and stays silent blocks the command for
+ever. A start-up frame at fault closes its connection at once, and so does one that is not whole in time (--start).
 
 The answer is sent at the end of the peer's output. With --enhanced it is sent once the peer's Send was received, and
 peers may use MPA revision 1 or 2.
@@ -30,7 +30,8 @@ Example: iwarp listen --port 4420 --count 2";
 
 const CONNECT_HELP: &str = "\
 The output ends once the text was sent. With --enhanced it ends only after the answer, and the peer has to use MPA
-revision 2. A Reply that is at fault or rejects closes the connection at once.
+revision 2. A Reply that is at fault or rejects closes the connection at once. Use --pause 300 with Linux's siw: it may
+leave unread what comes right behind its Reply.
 
 Exit status:
   0  An answer was received on each connection, and none failed
@@ -73,6 +74,23 @@ fn flag<'a>(alloc: Global, name: &'a str, help: &'a str) -> Arg<'a> {
         .action(ArgAction::SetTrue)
 }
 
+fn seconds_option<'a>(alloc: Global, name: &'a str, help: &'a str) -> Arg<'a> {
+    Arg::new(alloc, name)
+        .long(name)
+        .value_name("SECONDS")
+        .help(help)
+        .value_parser(value_parser!(u64).range(1..=86_400))
+}
+
+fn pause_option<'a>(alloc: Global) -> Arg<'a> {
+    Arg::new(alloc, "pause")
+        .long("pause")
+        .value_name("MS")
+        .help("Waits so many milliseconds before what it sends behind its Request: 0 to 60000")
+        .value_parser(value_parser!(u64).range(0..=60_000))
+        .default_value("0")
+}
+
 // The options of each command that makes connections.
 fn with_options<'a>(alloc: Global, command: Command<'a>) -> Result<Command<'a>, clap::Error> {
     Ok(
@@ -111,7 +129,13 @@ fn listen<'a>(alloc: Global) -> Result<Command<'a>, clap::Error> {
                 "Serves connections on 127.0.0.1: prints its port, and sends back what peers write into its region",
             )
             .after_help(LISTEN_HELP)
-            .arg(port)?,
+            .arg(port)?
+            .arg(seconds_option(
+                alloc,
+                "start",
+                "Closes a connection that has not started up after so many seconds: 1 to 86400",
+            )
+            .default_value("10"))?,
     )
 }
 
@@ -130,7 +154,13 @@ fn connect<'a>(alloc: Global) -> Result<Command<'a>, clap::Error> {
             )
             .after_help(CONNECT_HELP)
             .arg(port)?
-            .arg(text_option(alloc))?,
+            .arg(text_option(alloc))?
+            .arg(seconds_option(
+                alloc,
+                "timeout",
+                "Gives up a connection that takes more than so many seconds: 1 to 86400; without it, none",
+            ))?
+            .arg(pause_option(alloc))?,
     )
 }
 

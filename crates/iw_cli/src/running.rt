@@ -53,12 +53,21 @@ fn run_task<R: Runtime + AllocGlobal + Net + Processes>(rt: &R, task: &Task<'_>)
         Task::Replay => run_replay(rt),
         Task::Listen {
             port,
+            pace,
             options,
             count,
-        } => ended(rt, listen(alloc, rt, *port, *options, *count, &mut print)),
-        Task::Connect { port, request } if is_sendable(rt, request) => {
-            ended(rt, connect(alloc, rt, *port, request, &mut print))
-        }
+        } => ended(
+            rt,
+            listen(alloc, rt, *port, *pace, *options, *count, &mut print),
+        ),
+        Task::Connect {
+            port,
+            pace,
+            request,
+        } if is_sendable(rt, request) => ended(
+            rt,
+            connect(alloc, rt, *port, *pace, request, &mut print),
+        ),
         Task::Pair { program, request } if is_sendable(rt, request) => {
             ended(rt, pair(alloc, rt, program, request, &mut print))
         }

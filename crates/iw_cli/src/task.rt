@@ -1,5 +1,5 @@
 use clap::ArgMatches;
-use iw_commands::{Options, Request};
+use iw_commands::{Options, Pace, Request};
 
 /// What the command line asks for.
 #[derive(Clone, Copy, Debug)]
@@ -7,11 +7,13 @@ pub(crate) enum Task<'a> {
     Replay,
     Listen {
         port: u16,
+        pace: Pace,
         options: Options,
         count: u8,
     },
     Connect {
         port: u16,
+        pace: Pace,
         request: Request<'a>,
     },
     Pair {
@@ -43,11 +45,19 @@ pub(crate) fn task_of<'a>(matches: &ArgMatches<'a>) -> Option<Task<'a>> {
         "replay" => Some(Task::Replay),
         "listen" => Some(Task::Listen {
             port: words.get_one::<u16>("port")?,
+            pace: Pace {
+                seconds: words.get_one::<u64>("start"),
+                pause: 0,
+            },
             options: options_of(words),
             count: words.get_one::<u8>("count")?,
         }),
         "connect" => Some(Task::Connect {
             port: words.get_one::<u16>("port")?,
+            pace: Pace {
+                seconds: words.get_one::<u64>("timeout"),
+                pause: words.get_one::<u64>("pause")?,
+            },
             request: request_of(words)?,
         }),
         "pair" => Some(Task::Pair {

@@ -7,12 +7,15 @@ use crate::fault::CommandFault;
 use crate::options::Options;
 use crate::peers::{Calls, Peers};
 use crate::printing::{print_report, unmade};
+use crate::timed::Pace;
 use iw_endpoint::Endpoint;
 use iw_links::{Counted, Output, Report, Terms, ask, caller};
 use iw_output::Status;
 use std::alloc::Global;
+use std::cell::Cell;
 use std::io::{Read, Write};
 use std::net::Net;
+use std::time::Clock;
 
 /// What `connect` sends, on how many connections.
 #[derive(Clone, Copy, Debug)]
@@ -115,11 +118,12 @@ pub fn connect_all<P: Peers, W: Write>(
     }
 }
 
-/// Makes requests at a port of 127.0.0.1, as [`connect_all`] does.
-pub fn connect<N: Net, W: Write>(
+/// Makes requests at a port of 127.0.0.1, as [`connect_all`] does, each at this pace: a connection that takes longer breaks.
+pub fn connect<N: Net + Clock, W: Write>(
     alloc: Global,
     net: &N,
     port: u16,
+    pace: Pace,
     request: &Request<'_>,
     print: &mut W,
 ) -> Result<Status, CommandFault>
@@ -128,5 +132,11 @@ pub fn connect<N: Net, W: Write>(
     ensures stopped { OnErr result ((last : EndpointState) × PrintsFront request.now.options (Asks request.now.text.now)
         with_domain last request.now.count (W.contents print.old) (W.contents print.new)) }
 {
-    connect_all(alloc, &mut Calls::new(net, port), request, print)
+    let is_met = Cell::new(false);
+    connect_all(
+        alloc,
+        &mut Calls::new(net, port, pace, &is_met),
+        request,
+        print,
+    )
 }

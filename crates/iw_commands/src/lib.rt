@@ -14,6 +14,7 @@ mod port;
 mod printing;
 mod serving;
 mod starting;
+mod timed;
 
 pub use asking::{Request, connect, connect_all};
 pub use fault::CommandFault;
@@ -22,3 +23,4 @@ pub use pairing::{Talked, drain, pair, talk};
 pub use peers::{Arrivals, Calls, Peers};
 pub use port::read_port;
 pub use serving::{listen, listen_all};
+pub use timed::{Pace, TimedInput, TimedOutput};

@@ -10,13 +10,16 @@ use crate::peers::{Calls, Peers};
 use crate::port::read_port;
 use crate::printing::{print_report, unmade};
 use crate::starting::listener;
+use crate::timed::Pace;
 use iw_endpoint::Endpoint;
 use iw_links::{Counted, MOST_READS, Report, Terms, caller};
 use iw_output::Status;
 use std::alloc::Global;
+use std::cell::Cell;
 use std::io::{Read, Write};
 use std::net::Net;
 use std::process::{Child, OpenProcess, Processes};
+use std::time::Clock;
 
 // The most octets that one read of the pipe takes: as many as a pipe holds.
 const MOST_PIPED: usize = 65_536;
@@ -170,7 +173,7 @@ fn give_up<P: OpenProcess>(child: &mut Child<P>) -> Status {
 }
 
 // Reads the port that the other process prints, and makes the requests there.
-fn meet<N: Net, I: Read, W: Write>(
+fn meet<N: Net + Clock, I: Read, W: Write>(
     alloc: Global,
     net: &N,
     pipe: &mut Counted<I>,
@@ -186,10 +189,11 @@ fn meet<N: Net, I: Read, W: Write>(
         with_domain last request.now.count (W.contents print.old) (W.contents print.new)) }
     ensures bounded { pipe.new.reads ≤ 1000000 }
 {
+    let is_met = Cell::new(false);
     match read_port(alloc, pipe) {
         Ok(port) => talk(
             alloc,
-            &mut Calls::new(net, port),
+            &mut Calls::new(net, port, Pace::UNBOUNDED, &is_met),
             pipe,
             request,
             buffer,
@@ -222,7 +226,7 @@ fn start<R: Processes>(
 ///
 /// An `Err` is `Program` if the process could not be started or named no port (then nothing was printed), `Output` if a
 /// line could not be printed, or `NoMemory`. The process has then ended too.
-pub fn pair<R: Net + Processes, W: Write>(
+pub fn pair<R: Net + Clock + Processes, W: Write>(
     alloc: Global,
     rt: &R,
     program: &str,

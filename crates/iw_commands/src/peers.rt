@@ -1,6 +1,9 @@
-use iw_links::{Half, Output};
-use std::io::{self, Read, Write};
-use std::net::{Ipv4Addr, Net, OpenListener, OpenStream, TcpListener, TcpStream};
+use crate::timed::{Manner, Pace, Time, TimedInput, TimedOutput, halves};
+use iw_links::Output;
+use std::cell::Cell;
+use std::io::{self, Read};
+use std::net::{Ipv4Addr, Net, OpenListener, SocketAddr, TcpListener, TcpStream};
+use std::time::Clock;
 
 /// Where connections come from, one after the other.
 pub trait Peers {
@@ -14,24 +17,30 @@ pub trait Peers {
     fn next_peer(&mut self) -> io::Result<(Self::Input, Self::Output)>;
 }
 
-// The two halves of a stream, with TCP_NODELAY set.
-fn halves<S: Read + Write + OpenStream + Drop>(stream: S) -> io::Result<(S, Half<S>)> {
-    stream.set_nodelay(true)?;
-    let other = stream.try_clone()?;
-    Ok((stream, Half::new(other)))
-}
-
-/// The connections that a listener accepts.
+/// The connections that a listener accepts, one after the other.
 #[derive(Drop)]
-pub struct Arrivals<N: Net> {
+pub struct Arrivals<'a, N: Net> {
+    net: &'a N,
     listener: N::Listener,
+    pace: Pace,
+    // The connection's MPA Reply was written.
+    is_answered: &'a Cell<bool>,
 }
 
-impl<N: Net> Arrivals<N> {
-    /// Listens on 127.0.0.1, at any free port if `port` is 0.
-    pub fn bind(net: &N, port: u16) -> io::Result<Arrivals<N>> {
+impl<'a, N: Net> Arrivals<'a, N> {
+    /// Listens on 127.0.0.1, at any free port if `port` is 0. The time of a connection is that until its MPA Reply was written
+    /// (RFC 5044 7.1.2, rule 10), after which `is_answered` is set.
+    pub fn bind(
+        net: &'a N,
+        port: u16,
+        pace: Pace,
+        is_answered: &'a Cell<bool>,
+    ) -> io::Result<Arrivals<'a, N>> {
         Ok(Arrivals {
+            net,
             listener: TcpListener::bind(net, (Ipv4Addr::LOCALHOST, port))?,
+            pace,
+            is_answered,
         })
     }
 
@@ -41,14 +50,23 @@ impl<N: Net> Arrivals<N> {
     }
 }
 
-impl<N: Net> Peers for Arrivals<N> {
-    type Input = N::Stream;
+impl<'a, N: Net + Clock> Peers for Arrivals<'a, N> {
+    type Input = TimedInput<'a, N::Stream, N>;
 
-    type Output = Half<N::Stream>;
+    type Output = TimedOutput<'a, N::Stream, N>;
 
-    fn next_peer(&mut self) -> io::Result<(N::Stream, Half<N::Stream>)> {
+    fn next_peer(&mut self) -> io::Result<(Self::Input, Self::Output)> {
         let (stream, _) = self.listener.accept()?;
-        halves(stream)
+        self.is_answered.set(false);
+        let manner = Manner {
+            pause: self.pace.pause,
+            meets: true,
+        };
+        halves(
+            stream,
+            Time::new(self.net, self.pace, self.is_answered)?,
+            manner,
+        )
     }
 }
 
@@ -57,21 +75,46 @@ impl<N: Net> Peers for Arrivals<N> {
 pub struct Calls<'a, N: Net> {
     net: &'a N,
     port: u16,
+    pace: Pace,
+    // No call has done all in time before it is over.
+    is_met: &'a Cell<bool>,
 }
 
 impl<'a, N: Net> Calls<'a, N> {
-    /// Connections to this port. None is made yet.
-    pub fn new(net: &'a N, port: u16) -> Calls<'a, N> {
-        Calls { net, port }
+    /// Connections to this port. None is made yet. The time of a connection is that of all of it; `is_met` is not set.
+    pub fn new(net: &'a N, port: u16, pace: Pace, is_met: &'a Cell<bool>) -> Calls<'a, N> {
+        Calls {
+            net,
+            port,
+            pace,
+            is_met,
+        }
     }
 }
 
-impl<'a, N: Net> Peers for Calls<'a, N> {
-    type Input = N::Stream;
+impl<'a, N: Net + Clock> Calls<'a, N> {
+    // Makes a connection in this time.
+    fn call(&self, time: &Time<'a, N>) -> io::Result<N::Stream> {
+        let address = SocketAddr::from((Ipv4Addr::LOCALHOST, self.port));
+        match time.left()? {
+            Some(left) => TcpStream::connect_timeout(self.net, &address, left),
+            None => TcpStream::connect(self.net, address),
+        }
+    }
+}
 
-    type Output = Half<N::Stream>;
+impl<'a, N: Net + Clock> Peers for Calls<'a, N> {
+    type Input = TimedInput<'a, N::Stream, N>;
 
-    fn next_peer(&mut self) -> io::Result<(N::Stream, Half<N::Stream>)> {
-        halves(TcpStream::connect(self.net, (Ipv4Addr::LOCALHOST, self.port))?)
+    type Output = TimedOutput<'a, N::Stream, N>;
+
+    fn next_peer(&mut self) -> io::Result<(Self::Input, Self::Output)> {
+        let time = Time::new(self.net, self.pace, self.is_met)?;
+        let stream = self.call(&time)?;
+        let manner = Manner {
+            pause: self.pace.pause,
+            meets: false,
+        };
+        halves(stream, time, manner)
     }
 }

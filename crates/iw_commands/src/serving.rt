@@ -8,12 +8,15 @@ use crate::options::Options;
 use crate::peers::{Arrivals, Peers};
 use crate::port::port_text;
 use crate::printing::{print_report, print_text, unmade};
+use crate::timed::Pace;
 use iw_endpoint::{Endpoint, Stag};
 use iw_links::{Counted, Report, Terms, listener, serve};
 use iw_output::Status;
 use std::alloc::Global;
+use std::cell::Cell;
 use std::io::Write;
 use std::net::Net;
+use std::time::Clock;
 
 // Serves the next connection.
 fn serve_next<P: Peers>(
@@ -88,7 +91,7 @@ pub fn listen_all<P: Peers, W: Write>(
 }
 
 // The port that was bound: the one that was asked for, unless that was 0.
-fn named_port<N: Net>(arrivals: &Arrivals<N>, asked: u16) -> Result<u16, CommandFault>
+fn named_port<N: Net>(arrivals: &Arrivals<'_, N>, asked: u16) -> Result<u16, CommandFault>
     ensures { IfOk result (IsPort asked) }
 {
     match arrivals.port() {
@@ -98,13 +101,15 @@ fn named_port<N: Net>(arrivals: &Arrivals<N>, asked: u16) -> Result<u16, Command
 }
 
 /// Binds 127.0.0.1 at `port`, or at any free port if that is 0, prints `port Q` with the bound port Q, and serves
-/// connections as [`listen_all`] does.
+/// connections as [`listen_all`] does. A connection breaks whose MPA Request did not come and was not answered within the
+/// `seconds` of `pace`, from when it was accepted, whatever octets came (RFC 5044 7.1.2, rule 10).
 ///
 /// An `Err` is `Port` if the port cannot be bound (then nothing was printed), or that of [`listen_all`].
-pub fn listen<N: Net, W: Write>(
+pub fn listen<N: Net + Clock, W: Write>(
     alloc: Global,
     net: &N,
     port: u16,
+    pace: Pace,
     options: Options,
     count: u8,
     print: &mut W,
@@ -112,7 +117,8 @@ pub fn listen<N: Net, W: Write>(
     ensures printed { IfOk result (PrintsPort options port count (W.contents print.old) (W.contents print.new)) }
     ensures stopped { OnErr result (PrintsPortFront options port count (W.contents print.old) (W.contents print.new)) }
 {
-    let Ok(mut arrivals) = Arrivals::bind(net, port) else {
+    let is_answered = Cell::new(false);
+    let Ok(mut arrivals) = Arrivals::bind(net, port, pace, &is_answered) else {
         return Err(CommandFault::Port);
     };
     let Ok(bound) = named_port(&arrivals, port) else {
