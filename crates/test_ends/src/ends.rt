@@ -1,7 +1,8 @@
 use crate::meter::{Call, Heap, Meter, Stopped};
 use crate::side::Side;
 use bytes::Bytes;
-use iw_events::{Act, Call as EndCall, End, Entry, Event, StreamCall};
+use iw_endpoint::{LimitRefusal, OpenNextRefusal, Rights, Stag};
+use iw_events::{Act, Call as EndCall, End, Entry, Event, Options, StreamCall};
 
 /// Two ends. Streams of the same number are connected.
 #[derive(Drop)]
@@ -40,6 +41,34 @@ impl<'h> Ends<'h> {
             end: event.end,
             act,
         })
+    }
+
+    /// Opens a stream of end A under the next number, which no event of a schedule does. It has no octets on their way.
+    pub fn open_next(
+        &mut self,
+        pd: u8,
+        options: Options,
+    ) -> Result<Result<u32, OpenNextRefusal>, Stopped> {
+        self.a.open_next(&mut self.meter, pd, options)
+    }
+
+    /// The same for a stream that shares its domain's pool.
+    pub fn open_shared_next(
+        &mut self,
+        pd: u8,
+        options: Options,
+    ) -> Result<Result<u32, OpenNextRefusal>, Stopped> {
+        self.a.open_shared_next(&mut self.meter, pd, options)
+    }
+
+    /// Registers this many octets for one stream of end A alone, which no event of a schedule does.
+    pub fn register_for(
+        &mut self,
+        number: u32,
+        rights: Rights,
+        len: usize,
+    ) -> Result<Result<Stag, LimitRefusal>, Stopped> {
+        self.a.register_for(&mut self.meter, number, rights, len)
     }
 
     /// Drops what was emitted on a stream and had its turn at the other end. It cannot be delivered again.

@@ -34,10 +34,13 @@ pub enum Call {
     PostShared,
     TakeShared,
     OpenShared,
+    OpenNext,
+    OpenSharedNext,
+    RegisterFor,
 }
 
 /// Each call, and whether it allocates.
-pub const CALLS: [(Call, bool); 25] = [
+pub const CALLS: [(Call, bool); 28] = [
     (Call::New, false),
     (Call::Register, true),
     (Call::Open, true),
@@ -63,6 +66,9 @@ pub const CALLS: [(Call, bool); 25] = [
     (Call::PostShared, true),
     (Call::TakeShared, false),
     (Call::OpenShared, true),
+    (Call::OpenNext, true),
+    (Call::OpenSharedNext, true),
+    (Call::RegisterFor, true),
 ];
 
 impl Call {
@@ -117,7 +123,7 @@ pub struct Meter<'h> {
     heap: Heap<'h>,
     is_refusing: bool,
     /// For each call: how often it was made, and how many of its requests for memory were refused.
-    counts: [(u64, u64); 25],
+    counts: [(u64, u64); 28],
 }
 
 impl<'h> Meter<'h> {
@@ -127,7 +133,7 @@ impl<'h> Meter<'h> {
         Meter {
             heap,
             is_refusing,
-            counts: [(0, 0); 25],
+            counts: [(0, 0); 28],
         }
     }
 

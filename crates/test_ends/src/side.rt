@@ -5,9 +5,9 @@ use crate::wire::Wire;
 use bytes::Bytes;
 use iw_endpoint::{
     Agreed, CallRefusal, Config, Delivery, DomainRefusal, Emission, Endpoint, EnhancedData,
-    MAX_PLACE, NoSuchStream, Octets, OpenRefusal, OpenSharedRefusal, PoolRefusal, PostRefusal,
-    RecvRefusal, RegisterRefusal, Request, Right, Rights, Role, STREAM_NUMBERS, ShareRefusal, Stag,
-    Step,
+    LimitRefusal, MAX_PLACE, NoSuchStream, Octets, OpenNextRefusal, OpenRefusal, OpenSharedRefusal,
+    PoolRefusal, PostRefusal, RecvRefusal, RegisterRefusal, Request, Right, Rights, Role,
+    STREAM_NUMBERS, ShareRefusal, Stag, Step,
 };
 use iw_events::{
     Act, Options, Seen, Shown, StreamAct, StreamCall, message_in, private_data, shared, standing,
@@ -300,6 +300,74 @@ impl<'h> Side<'h> {
             });
         }
         Err(Stopped::Endless(Call::OpenShared))
+    }
+
+    /// Opens a stream under the next number.
+    pub(crate) fn open_next(
+        &mut self,
+        meter: &mut Meter<'h>,
+        pd: u8,
+        options: Options,
+    ) -> Result<Result<u32, OpenNextRefusal>, Stopped> {
+        for n in 0..MOST_TRIES {
+            let config = config_for(options, &[]);
+            meter.begin(n);
+            let opened = self.endpoint.open_next(pd, Role::Preset, config);
+            if opened == Err(OpenNextRefusal::NoMemory) {
+                continue;
+            }
+            meter.end(Call::OpenNext, n)?;
+            return Ok(opened);
+        }
+        Err(Stopped::Endless(Call::OpenNext))
+    }
+
+    /// The same for a stream that shares its domain's pool.
+    pub(crate) fn open_shared_next(
+        &mut self,
+        meter: &mut Meter<'h>,
+        pd: u8,
+        options: Options,
+    ) -> Result<Result<u32, OpenNextRefusal>, Stopped> {
+        for n in 0..MOST_TRIES {
+            let config = config_for(options, &[]);
+            meter.begin(n);
+            let opened = self.endpoint.open_shared_next(pd, Role::Preset, config);
+            if opened == Err(OpenNextRefusal::NoMemory) {
+                continue;
+            }
+            meter.end(Call::OpenSharedNext, n)?;
+            return Ok(opened);
+        }
+        Err(Stopped::Endless(Call::OpenSharedNext))
+    }
+
+    /// Registers octets for one stream alone.
+    pub(crate) fn register_for(
+        &mut self,
+        meter: &mut Meter<'h>,
+        number: u32,
+        rights: Rights,
+        len: usize,
+    ) -> Result<Result<Stag, LimitRefusal>, Stopped> {
+        let mut octets = vec![in meter.heap(); 0; len]?;
+        for n in 0..MOST_TRIES {
+            meter.begin(n);
+            let answer = match self.endpoint.register_for(number, 0, octets, rights) {
+                Ok(stag) => Ok(stag),
+                Err(
+                    (CallRefusal::Refused(LimitRefusal::Refused(RegisterRefusal::NoMemory)), back),
+                ) => {
+                    octets = back;
+                    continue;
+                }
+                Err((CallRefusal::Refused(refusal), _)) => Err(refusal),
+                Err((CallRefusal::NoSuchStream, _)) => return Err(Stopped::NoSuchStream),
+            };
+            meter.end(Call::RegisterFor, n)?;
+            return Ok(answer);
+        }
+        Err(Stopped::Endless(Call::RegisterFor))
     }
 
     /// Makes a call on a stream; `came` are the octets that it delivers.

@@ -4,6 +4,8 @@
 //! Then it refuses memory. First each request of the replay in turn, which ends the replay; then each request of each
 //! call of the two endpoints in turn, after which the same call is made again, and the trace must be the same.
 //!
+//! So it does with the calls of an endpoint that no schedule has (`given_again`).
+//!
 //! It prints a line for each schedule: `NAME: as written`, or what is different, with status 1; and a line for each
 //! call of an endpoint. On standard error it counts the requests that were refused. At the end it runs the schedule of
 //! its standard input (`soak`).
@@ -16,7 +18,7 @@ mod soak;
 
 use anyhow::bail;
 use iw_program::{ReplayFault, Status, replay};
-use refused::{Counts, each_refused, made_again};
+use refused::{Counts, each_refused, given_again, made_again};
 use std::alloc::{AllocError, Global};
 use std::fs;
 use std::process::ExitCode;
@@ -210,8 +212,12 @@ fn replay_rows<R: Runtime + AllocGlobal>(rt: &R) -> anyhow::Result<ExitCode> {
     let mut counts = Counts::new();
     let rows = fs::read_to_string(rt, "rows")?;
     let is_written = replay_each(rt, rows.as_str(), &mut counts)?;
+    let is_given = given_again(rt.alloc(), &mut counts)?;
+    if !is_given {
+        println!(rt; "calls that no schedule has: not as with enough memory")?;
+    }
     let is_called = print_calls(rt, &counts)?;
-    if is_written && is_called {
+    if is_written && is_given && is_called {
         Ok(ExitCode::SUCCESS)
     } else {
         Ok(ExitCode::FAILURE)

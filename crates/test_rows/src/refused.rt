@@ -1,7 +1,8 @@
 //! Schedules whose requests for memory are refused.
 
 use bytes::Bytes;
-use iw_events::{Entry, Event};
+use iw_endpoint::{Establishment, OpenNextRefusal, Rights, Stag};
+use iw_events::{Call as EndCall, End, Entry, Event, Options};
 use iw_program::replay;
 use iw_schedules::{print_trace, read_schedule};
 use std::alloc::{AllocError, Global};
@@ -43,13 +44,13 @@ pub(crate) fn each_refused(alloc: Global, schedule: &[u8]) -> Result<Option<u64>
 /// How often each call was made, and how many of its requests for memory were refused.
 #[derive(Drop)]
 pub(crate) struct Counts {
-    counts: [(u64, u64); 25],
+    counts: [(u64, u64); 28],
 }
 
 impl Counts {
     pub(crate) fn new() -> Counts {
         Counts {
-            counts: [(0, 0); 25],
+            counts: [(0, 0); 28],
         }
     }
 
@@ -62,8 +63,8 @@ impl Counts {
     }
 
     /// Each call with its counts, and whether it allocates.
-    pub(crate) fn each(&self) -> [(Call, bool, u64, u64); 25] {
-        let mut each = [(Call::New, true, 0, 0); 25];
+    pub(crate) fn each(&self) -> [(Call, bool, u64, u64); 28] {
+        let mut each = [(Call::New, true, 0, 0); 28];
         for (it, ((call, takes_memory), (made, refused))) in each
             .iter_mut()
             .zip(CALLS.into_iter().zip(self.counts))
@@ -102,4 +103,45 @@ pub(crate) fn made_again(
     counts.add(&ends);
     let text = print_trace(&heap, entries.as_slice())?;
     Ok(text.as_bytes() == trace)
+}
+
+// A call at end A.
+fn at_a<'h>(call: EndCall<Bytes<Heap<'h>>>) -> Event<Bytes<Heap<'h>>> {
+    Event { end: End::A, call }
+}
+
+// Whether these streams got the next four numbers.
+fn are_next(numbers: [Result<u32, OpenNextRefusal>; 4]) -> bool {
+    numbers.into_iter().eq([Ok(64), Ok(65), Ok(66), Ok(67)])
+}
+
+/// Whether the calls that no schedule has give the numbers and STags of a run with enough memory, if each request for
+/// memory of each of them is refused in turn, and the same call is made again: `open_next`, `open_shared_next` and
+/// `register_for`, each twice.
+pub(crate) fn given_again(alloc: Global, counts: &mut Counts) -> anyhow::Result<bool> {
+    let heap = FailsAt::new(alloc, u64::MAX);
+    let mut ends = Ends::new(&heap, true)?;
+    let options = Options {
+        markers: false,
+        crc: true,
+        establishment: Establishment::Plain,
+    };
+    ends.happen(&at_a(EndCall::Domain { pd: 1 }))?;
+    ends.happen(&at_a(EndCall::Share { pd: 1 }))?;
+    let numbers = [
+        ends.open_next(1, options)?,
+        ends.open_next(1, options)?,
+        ends.open_shared_next(1, options)?,
+        ends.open_shared_next(1, options)?,
+    ];
+    let rights = Rights {
+        write: true,
+        read: false,
+        sink: false,
+        invalidate: false,
+    };
+    let first = ends.register_for(64, rights, 8)?;
+    let second = ends.register_for(66, rights, 8)?;
+    counts.add(&ends);
+    Ok(are_next(numbers) && first == Ok(Stag::new(1, 0, 0)) && second == Ok(Stag::new(1, 1, 0)))
 }
