@@ -39,8 +39,8 @@ static uint16_t check_identify(struct command *command) {
 
 static void identify_controller(const struct command *command, uint8_t *id) {
     const struct controller *controller = command->queue->controller;
-    const struct options *options = &command->queue->target->options;
-    set_text(id + ID_SN, SN_OCTETS, options->serial);
+    const struct identity *identity = &command->queue->target->identity;
+    set_text(id + ID_SN, SN_OCTETS, identity->serial);
     set_text(id + ID_MN, MN_OCTETS, "iWARP target");
     set_text(id + ID_FR, FR_OCTETS, "1");
     id[ID_CMIC] = CMIC_CONTROLLERS;
@@ -55,7 +55,7 @@ static void identify_controller(const struct command *command, uint8_t *id) {
     set_field(id + ID_KAS, 2, UNITS_OF_KAS);
     set_field(id + ID_MAXCMD, 2, QUEUE_DEPTH);
     set_field(id + ID_SGLS, 4, SGLS_SUPPORTED | SGLS_KEYED | SGLS_OFFSETS);
-    set_string(id + ID_SUBNQN, NQN_OCTETS, controller->discovery ? DISCOVERY_NQN : options->nqn);
+    set_string(id + ID_SUBNQN, NQN_OCTETS, controller->discovery ? DISCOVERY_NQN : identity->nqn);
     id[ID_SQES] = SQES_64 << 4 | SQES_64;
     id[ID_CQES] = CQES_16 << 4 | CQES_16;
     set_field(id + ID_IOCCSZ, 4, CAPSULE_OCTETS / 16);
@@ -67,17 +67,6 @@ static void identify_controller(const struct command *command, uint8_t *id) {
     id[ID_VWC] = VWC_PRESENT;
 }
 
-/* A number of 16 octets that tells disks apart: from the subsystem's name and serial number (FNV-1a, twice). */
-static void set_nguid(const struct options *options, uint8_t *at) {
-    const char *texts[] = {options->nqn, options->serial};
-    uint64_t sum = 0xcbf29ce484222325;
-    for (int half = 0; half < 2; half++) {
-        for (int i = 0; i < 2; i++)
-            for (const char *from = texts[i]; *from; from++) sum = (sum ^ (uint8_t)*from) * 0x100000001b3;
-        set_field(at + 8 * half, 8, sum);
-    }
-}
-
 static void identify_namespace(const struct command *command, uint8_t *id) {
     const struct target *target = command->queue->target;
     set_field(id + NS_NSZE, 8, target->store.blocks);
@@ -85,8 +74,18 @@ static void identify_namespace(const struct command *command, uint8_t *id) {
     set_field(id + NS_NUSE, 8, target->store.blocks);
     id[NS_NMIC] = NMIC_SHARED;
     id[NS_NSATTR] = target->store.read_only ? NSATTR_WRITE_PROTECTED : 0;
-    set_nguid(&target->options, id + NS_NGUID);
+    memcpy(id + NS_NGUID, target->identity.uuid, NGUID_OCTETS);
     id[NS_LBADS] = LBA_SHIFT;
+}
+
+/* The same 16 octets twice: as the NGUID, and as the UUID, which is told to later hosts. */
+static void list_descriptors(const struct identity *identity, uint8_t *list) {
+    static const uint8_t kinds[] = {DESCRIPTOR_NGUID, DESCRIPTOR_UUID};
+    for (size_t i = 0; i < sizeof kinds; i++, list += DESCRIPTOR_HEAD + UUID_OCTETS) {
+        list[0] = kinds[i];
+        list[1] = UUID_OCTETS;
+        memcpy(list + DESCRIPTOR_HEAD, identity->uuid, UUID_OCTETS);
+    }
 }
 
 static void run_identify(struct command *command) {
@@ -103,9 +102,7 @@ static void run_identify(struct command *command) {
         if (field(command->sqe + SQE_NSID, 4) < NSID) set_field(id, 4, NSID);
         break;
     case CNS_DESCRIPTORS:
-        id[0] = DESCRIPTOR_NGUID;
-        id[1] = NGUID_OCTETS;
-        set_nguid(&command->queue->target->options, id + DESCRIPTOR_HEAD);
+        list_descriptors(&command->queue->target->identity, id);
         break;
     }
     command_complete(command, STATUS_SUCCESS);
@@ -155,7 +152,7 @@ static void list_subsystems(const struct command *command, uint8_t *log) {
     set_field(entry + ENTRY_CNTLID, 2, CNTLID_DYNAMIC);
     set_field(entry + ENTRY_ASQSZ, 2, QUEUE_DEPTH);
     set_text(entry + ENTRY_TRSVCID, TRSVCID_OCTETS, service);
-    set_string(entry + ENTRY_SUBNQN, NQN_OCTETS, target->options.nqn);
+    set_string(entry + ENTRY_SUBNQN, NQN_OCTETS, target->identity.nqn);
     set_text(entry + ENTRY_TRADDR, TRADDR_OCTETS, target->options.told_address ? target->options.told_address : address);
     entry[ENTRY_TSAS_QPTYPE] = QPTYPE_CONNECTED;
     entry[ENTRY_TSAS_PRTYPE] = PRTYPE_IWARP;

@@ -126,7 +126,7 @@ static void run_connect(struct command *command) {
         refuse(command, CONNECT_QID);
     } else if (depth < 2 || depth > queue->depth) {
         refuse(command, CONNECT_SQSIZE);
-    } else if (!discovery && !is_text(command->data + CONNECT_SUBNQN, options->nqn)) {
+    } else if (!discovery && !is_text(command->data + CONNECT_SUBNQN, queue->target->identity.nqn)) {
         refuse(command, INVALID_IN_DATA | CONNECT_SUBNQN);
     } else if (command->data[CONNECT_HOSTNQN] == 0 || !memchr(command->data + CONNECT_HOSTNQN, 0, NQN_OCTETS)) {
         refuse(command, INVALID_IN_DATA | CONNECT_HOSTNQN);

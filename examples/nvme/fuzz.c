@@ -60,7 +60,7 @@ static void turn(void) {
 }
 
 static struct host new_host(void) {
-    return (struct host){.address = "127.0.0.1", .nqn = target.options.nqn, .port = target.port, .mulpdu = MOST_MULPDU, .turn = turn};
+    return (struct host){.address = "127.0.0.1", .nqn = target.identity.nqn, .port = target.port, .mulpdu = MOST_MULPDU, .turn = turn};
 }
 
 /* ---- the disk and its model */
@@ -400,7 +400,7 @@ static void spoil_connect(void) {
         set_field(sqe + CONNECT_QID, 2, id);
         set_field(sqe + CONNECT_SQSIZE, 2, 1);
         set_field(data + CONNECT_CNTLID, 2, id == 0 ? CNTLID_DYNAMIC : random_number(10));
-        memcpy(data + CONNECT_SUBNQN, target.options.nqn, strlen(target.options.nqn));
+        memcpy(data + CONNECT_SUBNQN, target.identity.nqn, strlen(target.identity.nqn));
         data[CONNECT_HOSTNQN] = 'h';
         for (int i = (int)random_number(4); i > 0; i--) data[random_number(CONNECT_OCTETS)] = (uint8_t)random_number(256);
         if (one_in(8)) memset(data + 512, 'h', 256);
@@ -687,7 +687,7 @@ static void stop(void) {
 /* Sends so many capsules in at least so many lives, to a target over a new file, or over memory if the path is null. A target whose
  * store has failed is started anew. */
 static void run(unsigned long capsules, unsigned long least_lives, const char *path) {
-    struct options options = {.address = "127.0.0.1", .nqn = "nqn.2026-11.example:fuzzed", .serial = "1", .ram_mib = DISK_MIB,
+    struct options options = {.address = "127.0.0.1", .nqn = "nqn.2026-11.example:fuzzed", .ram_mib = DISK_MIB,
         .workers = WORKERS, .start_ms = 10000, .stall_ms = 30000, .file = path};
     unsigned long sent_before = sent, lives_before = lives;
     if (path) make_file(path);

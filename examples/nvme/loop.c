@@ -246,6 +246,7 @@ int target_open(struct target *target, const struct options *options) {
         fprintf(stderr, "%s: %s\n", options->file ? options->file : "memory for the store", why);
         return 0;
     }
+    identity_find(&target->identity, options, target->store.fd);
     if (endpoint_handle(&target->handle, MOST_DOMAINS) != IWARP_OK) {
         fprintf(stderr, "no memory\n");
         return 0;

@@ -6,7 +6,7 @@
 #include "system.h"
 
 /* Capsules. */
-enum { SQE_OCTETS = 64, CQE_OCTETS = 16, CONNECT_OCTETS = 1024, IDENTIFY_OCTETS = 4096, NQN_OCTETS = 256, HOST_ID_OCTETS = 16 };
+enum { SQE_OCTETS = 64, CQE_OCTETS = 16, CONNECT_OCTETS = 1024, IDENTIFY_OCTETS = 4096, NQN_OCTETS = 256, MOST_NQN = 223, HOST_ID_OCTETS = 16 };
 
 /* A submission queue entry: a command. Bits 0 and 1 of its flags fuse it with another, bits 6 and 7 (PSDT) tell what describes
  * its data; over a fabric that is one SGL descriptor. */
@@ -91,7 +91,7 @@ enum { CMIC_CONTROLLERS = 2, CTRATT_HOST_ID_128 = 1, CTRATT_TBKAS = 0x40, TYPE_I
 enum { LPA_EFFECTS = 2, LPA_EXTENDED = 4, ONCS_DEALLOCATE = 4, ONCS_WRITE_ZEROES = 8, VWC_PRESENT = 1 };
 enum { SGLS_SUPPORTED = 1, SGLS_KEYED = 1 << 2, SGLS_OFFSETS = 1 << 20 };
 enum { NS_NSZE = 0, NS_NCAP = 8, NS_NUSE = 16, NS_NMIC = 30, NS_NSATTR = 99, NS_NGUID = 104, NS_LBADS = 130, NGUID_OCTETS = 16 };
-enum { NMIC_SHARED = 1, NSATTR_WRITE_PROTECTED = 1, DESCRIPTOR_NGUID = 2, DESCRIPTOR_HEAD = 4 };
+enum { NMIC_SHARED = 1, NSATTR_WRITE_PROTECTED = 1, DESCRIPTOR_NGUID = 2, DESCRIPTOR_UUID = 3, DESCRIPTOR_HEAD = 4 };
 enum { NSID = 1, NSID_LIST_MOST = 0xfffffffd };
 
 /* Get Log Page: pages, and fields of some of them. */
@@ -104,6 +104,7 @@ enum { ENTRY_SUBNQN = 256, ENTRY_TRADDR = 512, ENTRY_TSAS_QPTYPE = 768, ENTRY_TS
 enum { TRSVCID_OCTETS = 32, TRADDR_OCTETS = 256 };
 enum { TRTYPE_RDMA = 1, ADRFAM_IPV4 = 1, SUBTYPE_NVM = 2, QPTYPE_CONNECTED = 1, PRTYPE_IWARP = 5, CMS_RDMA_CM = 1 };
 #define DISCOVERY_NQN "nqn.2014-08.org.nvmexpress.discovery"
+#define UUID_NQN "nqn.2014-08.org.nvmexpress:uuid:" /* and a UUID */
 
 /* Features. */
 enum { FEATURE_ARBITRATION = 0x01, FEATURE_POWER = 0x02, FEATURE_WRITE_CACHE = 0x06, FEATURE_QUEUES = 0x07 };

@@ -5,14 +5,19 @@
 #include "../c/sockets.h"
 
 #include <fcntl.h>
+#include <limits.h>
 #include <malloc.h>
 #include <netinet/tcp.h>
 #include <pthread.h>
 #include <signal.h>
+#include <stdarg.h>
 #include <sys/eventfd.h>
 #include <sys/file.h>
 #include <sys/resource.h>
+#include <sys/stat.h>
+#include <sys/sysmacros.h>
 #include <sys/uio.h>
+#include <sys/xattr.h>
 
 /* Has malloc keep what is freed, as octets of data come and go with each command: else the system clears pages anew each time. */
 static inline void keep_memory(void) {

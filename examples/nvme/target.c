@@ -11,8 +11,9 @@ static const char help[] =
     "  --ram MIB        the disk: memory (the default, 64)\n"
     "  --address A      the IPv4 address to listen at (127.0.0.1)\n"
     "  --port N         the port; 0: any that is free, which the first line tells (4420)\n"
-    "  --nqn NAME       the subsystem's name (nqn.2026-11.example:iwarp)\n"
-    "  --serial TEXT    its serial number (1)\n"
+    "  --uuid UUID      which disk it is: two of one UUID are one to hosts (drawn once, and kept with the file)\n"
+    "  --nqn NAME       the subsystem's name, at most 223 octets (nqn.2014-08.org.nvmexpress:uuid: and the UUID)\n"
+    "  --serial TEXT    its serial number (20 digits of the UUID)\n"
     "  --allow NQN      a host that may connect, by the name that it gives, which is not proved; up to 256 times (each host may)\n"
     "  --tell A         the address that discovery tells (the one that the host has reached)\n"
     "  --mulpdu N       octets of an FPDU's payload, 128 to 64512 (as TCP's segments have)\n"
@@ -59,10 +60,19 @@ static int read_text(const char *text, const char **to) {
     return text && *text;
 }
 
+/* A name as NVMe has them (NQN). */
+static int read_name(const char *text, const char **name) {
+    return read_text(text, name) && strlen(text) <= MOST_NQN;
+}
+
 static int allow(struct options *options, const char *name) {
-    if (options->allowed_count == MOST_ALLOWED || !name || !*name || strlen(name) >= NQN_OCTETS) return 0;
-    options->allowed[options->allowed_count++] = name;
-    return 1;
+    if (options->allowed_count == MOST_ALLOWED) return 0;
+    return read_name(name, &options->allowed[options->allowed_count++]);
+}
+
+static int read_uuid(struct options *options, const char *text) {
+    options->has_uuid = text && uuid_read(text, options->uuid);
+    return options->has_uuid;
 }
 
 /* So many MiB are for connections. */
@@ -79,7 +89,8 @@ static int take(struct options *options, const char *word, const char *value) {
     if (strcmp(word, "--ram") == 0) return read_number(value, MOST_RAM_MIB, &options->ram_mib) && options->ram_mib > 0;
     if (strcmp(word, "--address") == 0) return read_text(value, &options->address);
     if (strcmp(word, "--port") == 0) return read_unsigned(value, 65535, &options->port);
-    if (strcmp(word, "--nqn") == 0) return read_text(value, &options->nqn) && strlen(value) < NQN_OCTETS;
+    if (strcmp(word, "--uuid") == 0) return read_uuid(options, value);
+    if (strcmp(word, "--nqn") == 0) return read_name(value, &options->nqn);
     if (strcmp(word, "--serial") == 0) return read_text(value, &options->serial);
     if (strcmp(word, "--allow") == 0) return allow(options, value);
     if (strcmp(word, "--tell") == 0) return read_text(value, &options->told_address);
@@ -117,8 +128,8 @@ static void name_program(const char *word) {
 
 int main(int n, char **words) {
     static struct target target;
-    struct options options = {.address = "127.0.0.1", .nqn = "nqn.2026-11.example:iwarp", .serial = "1", .ram_mib = 64, .port = 4420,
-        .workers = 4, .start_ms = 10000, .stall_ms = 30000};
+    struct options options = {.address = "127.0.0.1", .ram_mib = 64, .port = 4420, .workers = 4, .start_ms = 10000,
+        .stall_ms = 30000};
     if (n > 0) name_program(words[0]);
     for (int i = 1; i < n; i++) {
         if (strcmp(words[i], "--help") == 0) {
@@ -142,7 +153,8 @@ int main(int n, char **words) {
     signal(SIGXFSZ, SIG_IGN); /* a file that cannot grow fails the command */
     allow_files();
     if (!target_open(&target, &options)) return 1;
-    printf("port %u\n%llu blocks of %d octets, %s\n", target.port, (unsigned long long)target.store.blocks, LBA_OCTETS, options.nqn);
+    printf("port %u\n%llu blocks of %d octets, %s\n", target.port, (unsigned long long)target.store.blocks, LBA_OCTETS,
+        target.identity.nqn);
     fflush(stdout);
     stop_by = target.stop;
     signal(SIGTERM, stop);

@@ -4,7 +4,7 @@
 #define TARGET_H
 
 #include "endpoint.h"
-#include "nvme.h"
+#include "identity.h"
 
 enum {
     MIB = 1 << 20,
@@ -203,11 +203,13 @@ struct controller {
 /* ---- the target */
 
 struct options {
-    const char *file, *address, *told_address, *nqn, *serial;
+    const char *file, *address, *told_address, *nqn, *serial; /* the last two may be null */
     uint64_t ram_mib;
     unsigned port, options, mulpdu, workers, verbose;
     unsigned most_queues; /* at once; 0: as many as there can be */
     int read_only;
+    uint8_t uuid[UUID_OCTETS];
+    int has_uuid;
     uint64_t start_ms, stall_ms;
     const char *allowed[MOST_ALLOWED]; /* the names of hosts; if there are none, each may connect */
     unsigned allowed_count;
@@ -216,6 +218,7 @@ struct options {
 struct target {
     struct options options;
     struct store store;
+    struct identity identity;
     int epoll, listener;
     int stop; /* an eventfd: once it is written to, the target ends */
     unsigned port;
@@ -244,6 +247,13 @@ int target_turn(struct target *target, int most_ms);
 
 /* Ends all connections, and closes the store. Returns whether what was written is durable. */
 int target_close(struct target *target);
+
+/* say.c: a line if the options ask for such; a line on standard error. Neither waits for who reads it. */
+void say(const struct target *target, const char *format, ...) __attribute__((format(printf, 2, 3)));
+void complain(const char *format, ...) __attribute__((format(printf, 1, 2)));
+
+/* What a peer sent as text of a line: all but visible characters by their numbers, as far as there is room. */
+void escape(char *to, size_t room, const char *from);
 
 /* queue.c */
 struct queue *queue_open(struct target *target, int fd, uint32_t address);
