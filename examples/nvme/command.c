@@ -192,9 +192,19 @@ void command_give_up(struct command *command) {
     command->size = 0;
 }
 
+/* How long a command takes the store, about. What takes long comes bit by bit, as others wait that are about the same blocks. */
+static uint32_t weigh(const struct command *command) {
+    if (command->queue->id == 0) return 0;
+    if (command->sqe[SQE_OPCODE] == IO_DATASET_MANAGEMENT) return DATASET_WEIGHT;
+    if (command->sqe[SQE_OPCODE] != IO_WRITE_ZEROES) return 0;
+    return 1 + (uint32_t)(field(command->sqe + SQE_CDW12, 4) & RW_NLB) / (MIB / LBA_OCTETS);
+}
+
 /* Begins a command. What needs a buffer waits for it in a list, and a Write for a Read's place too; nothing waits for these. */
 static void start(struct command *command) {
     struct queue *queue = command->queue;
+    command->weight = weigh(command);
+    queue->weight += command->weight;
     if (command->direction == TO_HOST) {
         append(&queue->reading, command);
     } else if (command->direction == NO_DATA) {
@@ -250,6 +260,7 @@ void command_store(struct command *command, enum job_kind kind, uint64_t at, uin
     job->at = at;
     job->n = n;
     job->octets = command->data;
+    job->lane = &command->queue->lane;
     if (store_begin(&command->queue->target->store, job))
         take_stored(command);
     else
@@ -260,6 +271,11 @@ void command_stored(struct job *job) {
     struct command *command = command_of(job);
     command->queue->jobs--;
     take_stored(command);
+}
+
+void commands_drop(struct queue *queue) {
+    struct store *store = &queue->target->store;
+    for (uint32_t i = 0; i < queue->commands_made; i++) queue->jobs -= (uint32_t)store_drop(store, &queue->commands[i].job);
 }
 
 /* ---- responses */
@@ -286,6 +302,8 @@ static int32_t release(struct command *command) {
         struct spare left = leave_buffer(command);
         command_keep(queue, &left);
     }
+    queue->weight -= command->weight;
+    command->weight = 0;
     command->sqe = 0;
     command->next = queue->idle;
     queue->idle = command;
@@ -328,7 +346,7 @@ static int answer(struct command *command) {
 
 void commands_go_on(struct queue *queue) {
     if (queue->endpoint.ended) return;
-    while (queue->state != CLOSED && queue->starting.first) {
+    while (queue->state != CLOSED && queue->starting.first && queue->weight < MOST_WEIGHT) {
         struct command *command = queue->starting.first;
         take_first(&queue->starting);
         start(command);

@@ -39,6 +39,7 @@ static uint16_t check_changes(struct command *command) {
 static uint16_t check_read(struct command *command) {
     uint16_t status = check_blocks(command);
     if (status != STATUS_SUCCESS) return status;
+    command->job.durable = (field(command->sqe + SQE_CDW12, 4) & RW_FUA) != 0;
     command->direction = TO_HOST;
     command->length = octets_named(command);
     return command->length > MOST_TRANSFER ? invalid(STATUS_INVALID_FIELD) : STATUS_SUCCESS;
@@ -88,24 +89,51 @@ static uint16_t check_dataset(struct command *command) {
     return STATUS_SUCCESS;
 }
 
-/* Each range has to lie in the namespace, and all together can have no more blocks than it has, unless some overlap: what they
- * ask for is bounded so. */
-static uint16_t check_ranges(const struct command *command) {
+static int is_later(const void *one, const void *other) {
+    const struct span *a = one, *b = other;
+    return (a->at > b->at) - (a->at < b->at);
+}
+
+/* Sorts spans, and makes one of those that touch. Returns how many are left. */
+static uint32_t merge(struct span *spans, uint32_t count) {
+    uint32_t left = 0;
+    qsort(spans, count, sizeof *spans, is_later);
+    for (uint32_t i = 0; i < count; i++) {
+        struct span *last = &spans[left - (left > 0)];
+        if (left == 0 || spans[i].at > last->end)
+            spans[left++] = spans[i];
+        else if (spans[i].end > last->end)
+            last->end = spans[i].end;
+    }
+    return left;
+}
+
+/* Puts spans of the store in the place of the ranges. Each range has to lie in the namespace, and all together can have no more
+ * blocks than it has, unless some overlap: what they ask for is bounded so. */
+static uint16_t take_ranges(struct command *command, struct span *spans) {
     uint64_t all = 0;
+    uint32_t count = 0;
     const uint8_t *end = command->data + octets_of_ranges(command);
     for (const uint8_t *range = command->data; range < end; range += RANGE_OCTETS) {
-        uint64_t count = field(range + RANGE_NLB, 4);
-        if (!has_blocks(command, field(range + RANGE_SLBA, 8), count)) return invalid(STATUS_LBA_OUT_OF_RANGE);
-        all += count;
+        uint64_t from = field(range + RANGE_SLBA, 8), blocks = field(range + RANGE_NLB, 4);
+        if (!has_blocks(command, from, blocks)) return invalid(STATUS_LBA_OUT_OF_RANGE);
+        if (blocks > 0) spans[count++] = (struct span){from << LBA_SHIFT, (from + blocks) << LBA_SHIFT};
+        all += blocks;
     }
-    return all <= command->queue->target->store.blocks ? STATUS_SUCCESS : invalid(STATUS_INVALID_FIELD);
+    if (all > command->queue->target->store.blocks) return invalid(STATUS_INVALID_FIELD);
+    command->job.spans = merge(spans, count);
+    memcpy(command->data, spans, command->job.spans * sizeof *spans);
+    return STATUS_SUCCESS;
 }
 
 /* Ranges that are not to be deallocated are hints of their use, and change nothing. */
 static void run_dataset(struct command *command) {
-    uint16_t status = check_ranges(command);
-    if (status == STATUS_SUCCESS && field(command->sqe + SQE_CDW11, 4) & DSM_DEALLOCATE)
-        command_store(command, JOB_DEALLOCATE, 0, octets_of_ranges(command));
+    _Static_assert(sizeof(struct span) == RANGE_OCTETS, "spans fit in the place of ranges");
+    struct span spans[MOST_RANGES];
+    uint16_t status = take_ranges(command, spans);
+    int is_job = field(command->sqe + SQE_CDW11, 4) & DSM_DEALLOCATE && status == STATUS_SUCCESS && command->job.spans > 0;
+    if (is_job)
+        command_store(command, JOB_DEALLOCATE, spans[0].at, spans[command->job.spans - 1].end - spans[0].at);
     else
         command_complete(command, status);
 }

@@ -4,12 +4,6 @@
 enum { MOST_EVENTS = 64, MOST_ACCEPTS = 64, LOOK_MS = 200, REST_MS = 500, DRAIN_MS = 2000, BACKLOG = 128 };
 enum { PROBES = 3, LONGEST_KEEPALIVE = 32767 }; /* the system's limit, in seconds */
 
-static uint64_t now_ms(void) {
-    struct timespec time;
-    clock_gettime(CLOCK_MONOTONIC, &time);
-    return (uint64_t)time.tv_sec * 1000 + (uint64_t)time.tv_nsec / 1000000;
-}
-
 static int watch(struct target *target, int fd, void *as) {
     struct epoll_event event = {.events = EPOLLIN, .data.ptr = as};
     return epoll_ctl(target->epoll, EPOLL_CTL_ADD, fd, &event) == 0;
@@ -216,8 +210,10 @@ static int turn(struct target *target, int most_ms) {
     return 1;
 }
 
+/* A quarter of the time is left to the store, for what is not answered by then. */
 int target_turn(struct target *target, int most_ms) {
-    return turn(target, most_ms) && (!target->ends_at || (target->queues && target->now < target->ends_at));
+    uint64_t until = target->ends_at - target->options.stall_ms / 4;
+    return turn(target, most_ms) && (!target->ends_at || (target->queues && target->now < until));
 }
 
 static int begin_listening(struct target *target) {
@@ -263,11 +259,13 @@ int target_open(struct target *target, const struct options *options) {
 
 int target_close(struct target *target) {
     if (!target->ends_at) close(target->listener);
+    uint64_t until = target->ends_at ? target->ends_at : target->now + target->options.stall_ms;
     for (struct queue *it = target->queues; it; it = it->next) queue_close(it);
-    while (target->queues && turn(target, 1)) {
+    while (target->queues && target->now < until && turn(target, 1)) {
     }
+    if (!store_close(&target->store, target->now < until ? until - target->now : 0)) return 0;
     close(target->epoll);
     close(target->stop);
     iwarp_free(&target->handle);
-    return store_close(&target->store);
+    return !target->store.failed;
 }

@@ -104,6 +104,7 @@ void queue_close(struct queue *queue) {
     if (queue->target->options.verbose) printf("queue %d of controller %d: closed\n", queue->id, controller ? controller->id : 0);
     queue_enter(queue, CLOSED);
     close(queue->fd);
+    commands_drop(queue);
     queue->target->sweep = 1;
     queue->controller = 0;
     if (controller && queue->id > 0)

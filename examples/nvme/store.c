@@ -1,139 +1,70 @@
-/* The block store: memory, or a file or block device that workers read and write, so that a slow one holds up no connection. */
+/* The store's threads, and the lists from which they take jobs. */
 #include "target.h"
 
-enum { ZEROES = 65536 }; /* octets that are cleared at once */
-enum { MOST_LOOKED = 64 }; /* jobs that wait, of which it is asked whether another has to wait for them */
+/* ---- lists */
 
-/* What is wrong, as a command's status. */
-static uint16_t status_of(int error, uint16_t otherwise) {
-    switch (error) {
-    case ENOSPC:
-    case EDQUOT:
-        return STATUS_CAPACITY_EXCEEDED;
-    case EROFS:
-    case EBADF:
-        return STATUS_WRITE_PROTECTED;
-    default:
-        return otherwise;
-    }
+static void append(struct jobs *jobs, struct job *job) {
+    job->next = 0;
+    if (jobs->first)
+        jobs->last->next = job;
+    else
+        jobs->first = job;
+    jobs->last = job;
 }
 
-static uint16_t read_file(const struct store *store, uint8_t *octets, uint64_t n, uint64_t at) {
-    while (n > 0) {
-        ssize_t got = pread(store->fd, octets, n, (off_t)at);
-        if (got < 0 && errno == EINTR) continue;
-        if (got <= 0) return STATUS_UNRECOVERED_READ; /* 0: the file was cut short */
-        octets += got;
-        at += (uint64_t)got;
-        n -= (uint64_t)got;
-    }
-    return STATUS_SUCCESS;
+static void take_out(struct jobs *jobs, const struct job *job) {
+    struct job *before = 0;
+    for (struct job *it = jobs->first; it != job; it = it->next) before = it;
+    if (before)
+        before->next = job->next;
+    else
+        jobs->first = job->next;
+    if (jobs->last == job) jobs->last = before;
 }
 
-static uint16_t write_file(const struct store *store, const uint8_t *octets, uint64_t n, uint64_t at) {
-    while (n > 0) {
-        ssize_t put = pwrite(store->fd, octets, n, (off_t)at);
-        if (put < 0 && errno == EINTR) continue;
-        if (put <= 0) return status_of(errno, STATUS_WRITE_FAULT);
-        octets += put;
-        at += (uint64_t)put;
-        n -= (uint64_t)put;
-    }
-    return STATUS_SUCCESS;
+/* Puts a lane into the ring as the last of all that have their turn. */
+static void append_lane(struct store *store, struct lane *lane) {
+    lane->next = 0;
+    if (store->lanes)
+        store->last_lane->next = lane;
+    else
+        store->lanes = lane;
+    store->last_lane = lane;
 }
 
-static uint16_t zero_file(const struct store *store, uint64_t at, uint64_t n) {
-    static const uint8_t zeroes[ZEROES];
-    if (fallocate(store->fd, FALLOC_FL_ZERO_RANGE | FALLOC_FL_KEEP_SIZE, (off_t)at, (off_t)n) == 0) return STATUS_SUCCESS;
-    int cannot = errno == EOPNOTSUPP || errno == EINVAL || errno == ENOSYS || errno == EINTR;
-    if (!cannot) return status_of(errno, STATUS_WRITE_FAULT);
-    while (n > 0) {
-        uint64_t part = n < ZEROES ? n : ZEROES;
-        uint16_t status = write_file(store, zeroes, part, at);
-        if (status != STATUS_SUCCESS) return status;
-        at += part;
-        n -= part;
-    }
-    return STATUS_SUCCESS;
+static void take_lane_out(struct store *store, const struct lane *lane) {
+    struct lane *before = 0;
+    for (struct lane *it = store->lanes; it != lane; it = it->next) before = it;
+    if (before)
+        before->next = lane->next;
+    else
+        store->lanes = lane->next;
+    if (store->last_lane == lane) store->last_lane = before;
 }
 
-/* Memory is read and written by the loop while workers clear some of it: one at a time has it, so that no block is half this and
- * half that. */
-static void copy_memory(struct store *store, uint8_t *to, const uint8_t *from, uint64_t n) {
-    pthread_mutex_lock(&store->memory);
-    memcpy(to, from, n);
-    pthread_mutex_unlock(&store->memory);
+/* ---- where jobs go. The mutex is held */
+
+static void make_ready(struct store *store, struct job *job) {
+    if (!job->lane->jobs.first) append_lane(store, job->lane);
+    append(&job->lane->jobs, job);
+    job->place = READY;
+    pthread_cond_signal(&store->more);
 }
 
-static void clear_memory(struct store *store, uint64_t at, uint64_t n) {
-    while (n > 0) {
-        uint64_t part = n < ZEROES ? n : ZEROES;
-        pthread_mutex_lock(&store->memory);
-        memset(store->ram + at, 0, part);
-        pthread_mutex_unlock(&store->memory);
-        at += part;
-        n -= part;
-    }
+static void make_unsynced(struct store *store, struct job *job) {
+    append(&store->unsynced, job);
+    job->place = UNSYNCED;
+    pthread_cond_signal(&store->unsynced_more);
 }
 
-/* Gives ranges back. A file system that cannot leaves them as they are, which is allowed. */
-static void deallocate(struct store *store, const struct job *job) {
-    for (const uint8_t *range = job->octets; range < job->octets + job->n; range += RANGE_OCTETS) {
-        uint64_t at = field(range + RANGE_SLBA, 8) << LBA_SHIFT, n = field(range + RANGE_NLB, 4) << LBA_SHIFT;
-        if (n == 0) continue;
-        if (store->ram)
-            clear_memory(store, at, n);
-        else
-            (void)!fallocate(store->fd, FALLOC_FL_PUNCH_HOLE | FALLOC_FL_KEEP_SIZE, (off_t)at, (off_t)n);
-    }
+static void make_done(struct store *store, struct job *job) {
+    uint64_t one = 1;
+    if (!store->done.first) (void)!write(store->told, &one, sizeof one);
+    append(&store->done, job);
+    job->place = DONE;
 }
 
-static void do_in_memory(struct store *store, struct job *job) {
-    job->status = STATUS_SUCCESS;
-    switch (job->kind) {
-    case JOB_READ:
-        copy_memory(store, job->octets, store->ram + job->at, job->n);
-        break;
-    case JOB_WRITE:
-        copy_memory(store, store->ram + job->at, job->octets, job->n);
-        break;
-    case JOB_ZERO:
-        clear_memory(store, job->at, job->n);
-        break;
-    case JOB_DEALLOCATE:
-        deallocate(store, job);
-        break;
-    case JOB_FLUSH:
-        break;
-    }
-}
-
-static void do_in_file(struct store *store, struct job *job) {
-    job->status = STATUS_SUCCESS;
-    switch (job->kind) {
-    case JOB_READ:
-        job->status = read_file(store, job->octets, job->n, job->at);
-        break;
-    case JOB_WRITE:
-        job->status = write_file(store, job->octets, job->n, job->at);
-        break;
-    case JOB_ZERO:
-        job->status = zero_file(store, job->at, job->n);
-        break;
-    case JOB_DEALLOCATE:
-        deallocate(store, job);
-        break;
-    case JOB_FLUSH:
-        break;
-    }
-}
-
-/* ---- jobs, and who does them */
-
-/* Whether a job is done only once what it wrote is on the medium. */
-static int is_to_be_durable(const struct job *job) {
-    return job->kind == JOB_FLUSH || ((job->kind == JOB_WRITE || job->kind == JOB_ZERO) && job->durable);
-}
+/* ---- the threads */
 
 /* A store that has failed is only read. */
 static int is_refused(const struct store *store, struct job *job) {
@@ -141,200 +72,206 @@ static int is_refused(const struct store *store, struct job *job) {
     return store->failed && job->kind != JOB_READ;
 }
 
-static void make_empty(struct jobs *jobs) {
-    jobs->first = 0;
-    jobs->last = &jobs->first;
+/* Whether a job has to wait until what was written is on the medium: a Read before it is done, others after. */
+static int is_to_be_synced(const struct store *store, const struct job *job) {
+    int asks = job->kind == JOB_FLUSH || (job->kind != JOB_DEALLOCATE && job->durable);
+    return !store->ram && asks && !job->is_synced;
 }
 
-/* Hands a job to the threads that wait for one of that list. */
-static void hand_over(struct store *store, struct jobs *jobs, struct job *job) {
-    job->next = 0;
-    pthread_mutex_lock(&store->mutex);
-    *jobs->last = job;
-    jobs->last = &job->next;
-    pthread_cond_signal(&jobs->more);
-    pthread_mutex_unlock(&store->mutex);
+/* Does a job, or a part of it. Returns whether there is no more to do but to make it durable. */
+static int work_on(struct store *store, struct job *job) {
+    if (is_refused(store, job)) return 1;
+    job->status = STATUS_SUCCESS;
+    if (job->kind == JOB_READ && is_to_be_synced(store, job)) return 1;
+    return medium_work(store, job);
 }
 
-/* ---- jobs that may not be done at a time */
-
-static int is_change(const struct job *job) {
-    return job->kind == JOB_WRITE || job->kind == JOB_ZERO || job->kind == JOB_DEALLOCATE;
-}
-
-/* Whether a job is about octets of these. */
-static int is_about(const struct job *job, uint64_t at, uint64_t n) {
-    if (job->kind != JOB_DEALLOCATE) return job->at < at + n && at < job->at + job->n;
-    for (const uint8_t *range = job->octets; range < job->octets + job->n; range += RANGE_OCTETS) {
-        uint64_t from = field(range + RANGE_SLBA, 8) << LBA_SHIFT, count = field(range + RANGE_NLB, 4) << LBA_SHIFT;
-        if (from < at + n && at < from + count) return 1;
-    }
-    return 0;
-}
-
-/* Whether one changes octets that the other is about: the system may show a block half changed, as a host is not to see it. */
-static int collide(const struct job *one, const struct job *other) {
-    if (!is_change(one) && !is_change(other)) return 0;
-    if (other->kind != JOB_DEALLOCATE) return is_about(one, other->at, other->n);
-    for (const uint8_t *range = other->octets; range < other->octets + other->n; range += RANGE_OCTETS)
-        if (is_about(one, field(range + RANGE_SLBA, 8) << LBA_SHIFT, field(range + RANGE_NLB, 4) << LBA_SHIFT)) return 1;
-    return 0;
-}
-
-/* Whether a job has to wait: for one that is being done, or for one that waits in front of it. If too many do, it waits as well. */
-static int has_to_wait(const struct store *store, const struct job *job) {
-    int looked = 0;
-    for (int i = 0; i < store->doing_count; i++)
-        if (collide(job, store->doing[i])) return 1;
-    for (const struct job *it = store->to_do.first; it && it != job; it = it->next)
-        if (++looked == MOST_LOOKED || collide(job, it)) return 1;
-    return 0;
-}
-
-static void begin_doing(struct store *store, struct job *job) {
-    store->doing[store->doing_count++] = job;
-}
-
-/* The job is done: what waited for it goes on. */
-static void end_doing(struct store *store, const struct job *job) {
-    int i = 0;
-    pthread_mutex_lock(&store->mutex);
-    while (store->doing[i] != job) i++;
-    store->doing[i] = store->doing[--store->doing_count];
-    if (store->to_do.first) pthread_cond_broadcast(&store->to_do.more);
-    pthread_mutex_unlock(&store->mutex);
-}
-
-/* Takes the oldest job out that need not wait, if there is one. */
-static struct job *oldest_that_may(struct store *store) {
-    struct jobs *jobs = &store->to_do;
-    struct job **link = &jobs->first;
-    int looked = 0;
-    while (*link && has_to_wait(store, *link) && ++looked < MOST_LOOKED) link = &(*link)->next;
-    struct job *job = *link;
-    if (!job || looked == MOST_LOOKED) return 0;
-    *link = job->next;
-    if (!*link) jobs->last = link;
-    begin_doing(store, job);
+/* The job for a worker: the oldest of the lane whose turn it is, and then of the next. Returns null once there is none, and the
+ * store ends. */
+static struct job *take_ready(struct store *store) {
+    while (!store->lanes && !store->ends) pthread_cond_wait(&store->more, &store->mutex);
+    struct lane *lane = store->lanes;
+    if (!lane) return 0;
+    struct job *job = lane->jobs.first;
+    take_out(&lane->jobs, job);
+    take_lane_out(store, lane);
+    if (lane->jobs.first) append_lane(store, lane);
+    job->place = TAKEN;
     return job;
-}
-
-/* The oldest job for a worker that need not wait. Returns null once there are none, and the store ends. */
-static struct job *take_one(struct store *store) {
-    struct jobs *jobs = &store->to_do;
-    struct job *job = 0;
-    pthread_mutex_lock(&store->mutex);
-    while (!(job = oldest_that_may(store)) && !(jobs->ends && !jobs->first)) pthread_cond_wait(&jobs->more, &store->mutex);
-    pthread_mutex_unlock(&store->mutex);
-    return job;
-}
-
-/* All jobs that wait to be durable. Returns null once there are none, and the store ends. */
-static struct job *take_unsynced(struct store *store) {
-    struct jobs *jobs = &store->unsynced;
-    pthread_mutex_lock(&store->mutex);
-    while (!jobs->first && !jobs->ends) pthread_cond_wait(&jobs->more, &store->mutex);
-    struct job *all = jobs->first;
-    make_empty(jobs);
-    pthread_mutex_unlock(&store->mutex);
-    return all;
-}
-
-static void give_back(struct store *store, struct job *jobs) {
-    uint64_t one = 1;
-    pthread_mutex_lock(&store->mutex);
-    for (struct job *next; jobs; jobs = next) {
-        next = jobs->next;
-        jobs->next = store->done;
-        store->done = jobs;
-    }
-    pthread_mutex_unlock(&store->mutex);
-    (void)!write(store->told, &one, sizeof one);
 }
 
 static void *work(void *given) {
     struct store *store = given;
-    for (struct job *job; (job = take_one(store));) {
-        if (!is_refused(store, job) && store->ram)
-            do_in_memory(store, job);
-        else if (!is_refused(store, job))
-            do_in_file(store, job);
-        end_doing(store, job);
-        if (!store->ram && job->status == STATUS_SUCCESS && is_to_be_durable(job)) {
-            hand_over(store, &store->unsynced, job);
-        } else {
-            job->next = 0;
-            give_back(store, job);
-        }
+    pthread_mutex_lock(&store->mutex);
+    for (struct job *job; (job = take_ready(store));) {
+        pthread_mutex_unlock(&store->mutex);
+        int is_over = work_on(store, job);
+        pthread_mutex_lock(&store->mutex);
+        if (!is_over && !job->is_dropped)
+            make_ready(store, job);
+        else if (job->kind == JOB_READ && is_to_be_synced(store, job))
+            make_unsynced(store, job);
+        else
+            make_done(store, job);
     }
+    store->workers--;
+    pthread_cond_signal(&store->unsynced_more);
+    pthread_cond_signal(&store->ended);
+    pthread_mutex_unlock(&store->mutex);
     return 0;
 }
 
 /* The system tells of an error once, and perhaps for what another host has written: the store has failed then, for all. */
 static void sync_file(struct store *store) {
-    if (store->read_only || store->failed || fdatasync(store->fd) == 0) return;
-    perror("the store has failed, and is only read from now on");
+    int error = 0;
+    if (store->ram || store->read_only || store->failed) return;
+    do error = fdatasync(store->fd) == 0 ? 0 : errno;
+    while (error == EINTR);
+    if (error == 0) return;
+    complain("the store has failed, and is only read from now on: %s", strerror(error));
     store->failed = 1;
+}
+
+/* All jobs that wait to be durable: none once the workers have ended, and there are none. */
+static struct jobs take_unsynced(struct store *store) {
+    while (!store->unsynced.first && !(store->ends && store->workers == 0)) pthread_cond_wait(&store->unsynced_more, &store->mutex);
+    struct jobs all = store->unsynced;
+    store->unsynced = (struct jobs){0};
+    for (struct job *it = all.first; it; it = it->next) it->place = TAKEN;
+    return all;
+}
+
+static void end_sync(struct store *store, struct job *job) {
+    uint16_t fault = job->kind == JOB_READ ? STATUS_UNRECOVERED_READ : STATUS_WRITE_FAULT;
+    job->status = store->failed ? fault : STATUS_SUCCESS;
+    job->is_synced = 1;
+    if (job->kind == JOB_READ && !store->failed && !job->is_dropped)
+        make_ready(store, job);
+    else
+        make_done(store, job);
 }
 
 /* Makes durable what was written. One call of the system serves all jobs that wait when it begins, and no worker waits for it. */
 static void *sync_jobs(void *given) {
     struct store *store = given;
-    for (struct job *jobs; (jobs = take_unsynced(store));) {
+    pthread_mutex_lock(&store->mutex);
+    for (struct jobs jobs; jobs = take_unsynced(store), jobs.first;) {
+        pthread_mutex_unlock(&store->mutex);
         sync_file(store);
-        for (struct job *it = jobs; it; it = it->next) it->status = store->failed ? STATUS_WRITE_FAULT : STATUS_SUCCESS;
-        give_back(store, jobs);
+        pthread_mutex_lock(&store->mutex);
+        for (struct job *it = jobs.first, *next; it; it = next) {
+            next = it->next;
+            end_sync(store, it);
+        }
     }
+    pthread_mutex_unlock(&store->mutex);
+    sync_file(store);
+    pthread_mutex_lock(&store->mutex);
+    store->syncs = 0;
+    pthread_cond_signal(&store->ended);
+    pthread_mutex_unlock(&store->mutex);
     return 0;
 }
 
-/* Whether a file's octets are in the system's cache, and so read at once, and no change of them waits or is being done. */
-static int read_cached(struct store *store, struct job *job) {
-    struct iovec part = {job->octets, job->n};
-    if (job->kind != JOB_READ) return 0;
-    pthread_mutex_lock(&store->mutex);
-    int waits = has_to_wait(store, job);
-    if (!waits) begin_doing(store, job);
-    pthread_mutex_unlock(&store->mutex);
-    if (waits) return 0;
-    int is_read = preadv2(store->fd, &part, 1, (off_t)job->at, RWF_NOWAIT) == (ssize_t)job->n;
-    end_doing(store, job);
-    if (is_read) job->status = STATUS_SUCCESS;
-    return is_read;
-}
+/* ---- the loop's side */
 
 /* Whether the job was done at once, as it takes no time that others would have to wait for. */
-static int is_done(struct store *store, struct job *job) {
-    if (is_refused(store, job)) return 1;
-    if (!store->ram) return read_cached(store, job);
-    if (job->kind == JOB_ZERO || job->kind == JOB_DEALLOCATE) return 0;
-    do_in_memory(store, job);
-    return 1;
+static int is_done_at_once(struct store *store, struct job *job) {
+    int transfers = job->kind == JOB_READ || job->kind == JOB_WRITE;
+    if (store->ram) return transfers && medium_work(store, job);
+    return job->kind == JOB_READ && !job->durable && medium_read_cached(store, job);
+}
+
+static int begin_flush(struct store *store, struct job *job) {
+    job->status = STATUS_SUCCESS;
+    if (store->ram) return 1;
+    pthread_mutex_lock(&store->mutex);
+    make_unsynced(store, job);
+    pthread_mutex_unlock(&store->mutex);
+    return 0;
+}
+
+/* The job waits for no other: a worker may have it. */
+static void may_be_done(void *given, struct job *job) {
+    struct store *store = given;
+    pthread_mutex_lock(&store->mutex);
+    make_ready(store, job);
+    pthread_mutex_unlock(&store->mutex);
 }
 
 int store_begin(struct store *store, struct job *job) {
-    if (is_done(store, job)) return 1;
-    hand_over(store, job->kind == JOB_FLUSH ? &store->unsynced : &store->to_do, job);
+    job->is_dropped = job->is_synced = 0;
+    job->part = 0;
+    job->done = 0;
+    if (is_refused(store, job)) return 1;
+    if (job->kind == JOB_FLUSH) return begin_flush(store, job);
+    order_look(&store->order, job);
+    if (job->waits_for == 0 && is_done_at_once(store, job)) return 1;
+    order_enter(&store->order, job);
+    job->place = BEHIND_OTHERS;
+    if (job->waits_for == 0) may_be_done(store, job);
     return 0;
 }
 
+static void leave(struct store *store, struct job *job) {
+    if (job->link) order_leave(&store->order, job, may_be_done, store);
+}
+
+int store_drop(struct store *store, struct job *job) {
+    pthread_mutex_lock(&store->mutex);
+    int is_out = job->place == BEHIND_OTHERS || job->place == READY || job->place == UNSYNCED;
+    if (job->place == READY) take_out(&job->lane->jobs, job);
+    if (job->place == READY && !job->lane->jobs.first) take_lane_out(store, job->lane);
+    if (job->place == UNSYNCED) take_out(&store->unsynced, job);
+    if (is_out) job->place = WITH_OWNER;
+    job->is_dropped = 1;
+    pthread_mutex_unlock(&store->mutex);
+    if (is_out) leave(store, job);
+    return is_out;
+}
+
+/* What was written, and is to be durable, waits for that now. Returns whether it was so. */
+static int is_made_unsynced(struct store *store, struct job *job) {
+    pthread_mutex_lock(&store->mutex);
+    int is_unsynced = job->status == STATUS_SUCCESS && is_to_be_synced(store, job) && !job->is_dropped;
+    job->place = WITH_OWNER;
+    if (is_unsynced) make_unsynced(store, job);
+    pthread_mutex_unlock(&store->mutex);
+    return is_unsynced;
+}
+
+/* Jobs leave the order here, so that those that waited for them are answered later. */
 struct job *store_done(struct store *store) {
     uint64_t count;
+    struct jobs given = {0};
     (void)!read(store->told, &count, sizeof count);
     pthread_mutex_lock(&store->mutex);
-    struct job *done = store->done;
-    store->done = 0;
+    struct jobs done = store->done;
+    store->done = (struct jobs){0};
     pthread_mutex_unlock(&store->mutex);
-    return done;
+    for (struct job *it = done.first, *next; it; it = next) {
+        next = it->next;
+        leave(store, it);
+        if (!is_made_unsynced(store, it)) append(&given, it);
+    }
+    return given.first;
 }
 
 /* ---- beginning and end */
 
+/* A block device is opened for itself alone, unless it is only read: so none is that is mounted, or part of another. */
+static int open_alone(const char *path, int read_only) {
+    struct stat facts;
+    int flags = (read_only ? O_RDONLY : O_RDWR) | O_CLOEXEC;
+    if (stat(path, &facts) == 0 && S_ISBLK(facts.st_mode) && !read_only) flags |= O_EXCL;
+    return open(path, flags);
+}
+
 /* Opens the file, and locks it: against other targets, as a lock keeps nobody else off. Returns why it cannot, or null. */
 static const char *open_file(struct store *store, const struct options *options) {
     store->read_only = options->read_only;
-    store->fd = open(options->file, (store->read_only ? O_RDONLY : O_RDWR) | O_CLOEXEC);
-    if (store->fd < 0) return strerror(errno);
+    store->fd = open_alone(options->file, store->read_only);
+    if (store->fd < 0) return errno == EBUSY ? "it is in use: mounted, or a part of another device" : strerror(errno);
     if (flock(store->fd, (store->read_only ? LOCK_SH : LOCK_EX) | LOCK_NB) != 0)
         return errno == EWOULDBLOCK ? "another target has it" : strerror(errno);
     off_t n = lseek(store->fd, 0, SEEK_END);
@@ -349,7 +286,22 @@ static const char *take_memory(struct store *store, const struct options *option
     return store->ram ? 0 : strerror(errno);
 }
 
-static int begin_thread(struct store *store, void *(*run)(void *)) {
+static void make_conditions(struct store *store) {
+    pthread_condattr_t steady;
+    pthread_condattr_init(&steady);
+    pthread_condattr_setclock(&steady, CLOCK_MONOTONIC);
+    pthread_mutex_init(&store->mutex, 0);
+    pthread_cond_init(&store->more, 0);
+    pthread_cond_init(&store->unsynced_more, 0);
+    pthread_cond_init(&store->ended, &steady);
+    pthread_condattr_destroy(&steady);
+}
+
+/* Counts a thread before it is there, as it may end at once. */
+static int begin_thread(struct store *store, void *(*run)(void *), int *goes_on) {
+    pthread_mutex_lock(&store->mutex);
+    ++*goes_on;
+    pthread_mutex_unlock(&store->mutex);
     if (pthread_create(&store->threads[store->thread_count], 0, run, store) != 0) return 0;
     store->thread_count++;
     return 1;
@@ -358,39 +310,41 @@ static int begin_thread(struct store *store, void *(*run)(void *)) {
 const char *store_open(struct store *store, const struct options *options) {
     memset(store, 0, sizeof *store);
     store->fd = -1;
-    make_empty(&store->to_do);
-    make_empty(&store->unsynced);
-    pthread_mutex_init(&store->mutex, 0);
-    pthread_mutex_init(&store->memory, 0);
-    pthread_cond_init(&store->to_do.more, 0);
-    pthread_cond_init(&store->unsynced.more, 0);
+    make_conditions(store);
     store->told = eventfd(0, EFD_NONBLOCK | EFD_CLOEXEC);
     if (store->told < 0) return strerror(errno);
     const char *why = options->file ? open_file(store, options) : take_memory(store, options);
     if (why) return why;
-    if (!begin_thread(store, sync_jobs)) return "no thread";
+    if (!begin_thread(store, sync_jobs, &store->syncs)) return "no thread";
     for (unsigned i = 0; i < options->workers; i++)
-        if (!begin_thread(store, work)) return "no thread";
+        if (!begin_thread(store, work, &store->workers)) return "no thread";
     return 0;
 }
 
-/* Has the threads that take from a list do what is there, and end. */
-static void end_threads(struct store *store, struct jobs *jobs, int from, int to) {
+/* Waits until all threads have ended, but no longer than that. Returns whether they have. */
+static int await_threads(struct store *store, uint64_t most_ms) {
+    enum { SECOND_MS = 1000, MS = 1000000 };
+    uint64_t at = now_ms() + most_ms;
+    struct timespec until = {.tv_sec = (time_t)(at / SECOND_MS), .tv_nsec = (long)(at % SECOND_MS) * MS};
     pthread_mutex_lock(&store->mutex);
-    jobs->ends = 1;
-    pthread_cond_broadcast(&jobs->more);
+    store->ends = 1;
+    pthread_cond_broadcast(&store->more);
+    pthread_cond_broadcast(&store->unsynced_more);
+    while (store->workers + store->syncs > 0 && pthread_cond_timedwait(&store->ended, &store->mutex, &until) == 0) {
+    }
+    int have = store->workers + store->syncs == 0;
     pthread_mutex_unlock(&store->mutex);
-    for (int i = from; i < to; i++) pthread_join(store->threads[i], 0);
+    return have;
 }
 
-int store_close(struct store *store) {
-    end_threads(store, &store->to_do, 1, store->thread_count);
-    end_threads(store, &store->unsynced, 0, 1);
-    if (!store->ram) {
-        sync_file(store);
-        close(store->fd);
+int store_close(struct store *store, uint64_t most_ms) {
+    if (!await_threads(store, most_ms)) {
+        complain("the file takes too long: what was written last may not be durable");
+        return 0;
     }
+    for (int i = 0; i < store->thread_count; i++) pthread_join(store->threads[i], 0);
+    if (!store->ram) close(store->fd);
     free(store->ram);
     close(store->told);
-    return !store->failed;
+    return 1;
 }

@@ -5,11 +5,9 @@
 
 #include "endpoint.h"
 #include "identity.h"
+#include "store.h"
 
 enum {
-    MIB = 1 << 20,
-    LBA_OCTETS = 512,
-    LBA_SHIFT = 9,
     QUEUE_DEPTH = 128, /* commands that an I/O queue takes, and the host's default */
     SPARE_COMMANDS = 2, /* a host's next command may come while the response to an earlier one is under way */
     MOST_COMMANDS = QUEUE_DEPTH + SPARE_COMMANDS,
@@ -26,65 +24,12 @@ enum {
     MOST_QUEUES = MOST_CONTROLLERS * DOMAIN_QUEUES + MOST_STARTING,
     QUEUE_MIB = 6, /* that a queue takes at most: MOST_DATA, its commands' capsules, and what the library keeps for its stream */
     MOST_ASYNC_EVENTS = 4,
+    MOST_WEIGHT = 32, /* of a queue's commands in hand: it takes none behind so many */
+    DATASET_WEIGHT = 16, /* of a Dataset Management command; a Write Zeroes weighs one for each MiB */
     MOST_SENT = MIB, /* octets, of a queue in a turn of the loop, and what is gathered then */
-    MOST_WORKERS = 64,
     MOST_ALLOWED = 256,
     KEEP_ALIVE_UNIT = 1000 /* ms */
 };
-
-/* ---- the store */
-
-enum job_kind { JOB_READ, JOB_WRITE, JOB_FLUSH, JOB_ZERO, JOB_DEALLOCATE };
-
-/* What the store is to do: at most one thing at a time for a command. */
-struct job {
-    struct job *next;
-    enum job_kind kind;
-    uint64_t at, n; /* octets of the store; JOB_DEALLOCATE: n octets of `octets` are ranges */
-    uint8_t *octets; /* JOB_READ fills them, JOB_WRITE writes them */
-    int durable; /* JOB_WRITE, JOB_ZERO: done once it is on the medium (FUA) */
-    uint16_t status;
-};
-
-/* Jobs that threads are to do. */
-struct jobs {
-    struct job *first, **last;
-    pthread_cond_t more;
-    int ends; /* no more come */
-};
-
-struct store {
-    uint64_t blocks;
-    uint8_t *ram; /* the octets, or null if there is a file */
-    int fd, read_only;
-    _Atomic int failed; /* what was written may be lost */
-    int told; /* an eventfd: jobs are done */
-    pthread_mutex_t memory; /* of `ram` */
-    pthread_mutex_t mutex; /* of the lists, and of what is being done */
-    struct jobs to_do; /* for the workers */
-    struct jobs unsynced; /* done but for what makes them durable */
-    struct job *doing[1 + MOST_WORKERS]; /* what workers and the loop do just now */
-    int doing_count;
-    struct job *done;
-    pthread_t threads[1 + MOST_WORKERS]; /* the first makes durable, the others are workers */
-    int thread_count;
-};
-
-struct options;
-
-/* Opens the file or block device that the options name, or takes memory if they name none, and starts workers. Returns why it
- * cannot, or null. */
-const char *store_open(struct store *store, const struct options *options);
-
-/* Has the workers finish what was begun, makes it durable, and closes. Returns whether all that was answered with success and was
- * to be durable is so. */
-int store_close(struct store *store);
-
-/* Begins a job. Returns 1 if it is done; else a worker does it, and store_done gives it back. */
-int store_begin(struct store *store, struct job *job);
-
-/* The jobs that workers have done since, as a list. */
-struct job *store_done(struct store *store);
 
 /* ---- commands and queues */
 
@@ -117,7 +62,8 @@ struct command {
     uint16_t status;
     uint64_t result;
     uint64_t number; /* of those that came at its queue */
-    void (*then)(struct command *command); /* if not null: what follows once the store has done its job with success */
+    uint32_t weight; /* in its queue */
+    void (*then)(struct command *command); /* if not null: what follows once the store has done its job, or failed */
 };
 
 /* The oldest first. */
@@ -165,6 +111,8 @@ struct queue {
     struct command *idle;
     uint64_t came; /* commands */
     uint32_t begun; /* those that are not answered */
+    uint32_t weight; /* of those that take the store long, and that others may have to wait for */
+    struct lane lane; /* its jobs in the store */
     struct list starting; /* have just come */
     struct list reading; /* wait for a buffer */
     struct list fetching; /* wait for a Read's place, and a buffer */
@@ -270,6 +218,7 @@ void command_begin(struct command *command, size_t n); /* its capsule came: n oc
 void command_complete(struct command *command, uint16_t status);
 void command_store(struct command *command, enum job_kind kind, uint64_t at, uint64_t n); /* has the store work on its data */
 void command_stored(struct job *job); /* the store has */
+void commands_drop(struct queue *queue); /* nobody wants what the store has not begun of the queue's commands */
 void command_fetched(struct command *command); /* its Read is done */
 void command_give_up(struct command *command); /* its Read never is: it goes with its queue, and is not run */
 void command_keep(struct queue *queue, struct spare *spare); /* keeps a buffer for the queue's next commands */
