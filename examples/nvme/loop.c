@@ -1,7 +1,7 @@
 /* The event loop: connections, what they can read and write, jobs that are done, and times that are over. */
 #include "target.h"
 
-enum { MOST_EVENTS = 64, MOST_ACCEPTS = 64, LOOK_MS = 200, REST_MS = 500, DRAIN_MS = 2000, BACKLOG = 128 };
+enum { MOST_EVENTS = 64, MOST_ACCEPTS = 64, LOOK_MS = 200, LATE_MS = 1000, REST_MS = 500, DRAIN_MS = 2000, BACKLOG = 128 };
 enum { PROBES = 3, LONGEST_KEEPALIVE = 32767 }; /* the system's limit, in seconds */
 
 static int watch(struct target *target, int fd, void *as) {
@@ -193,6 +193,17 @@ static void send_again(struct target *target) {
     }
 }
 
+/* Tells the time. A loop that had no turn for long, as the process was stopped, first hears hosts that have spoken meanwhile: it
+ * judges none before it has read from all, and the time without a turn does not count. */
+static void tell_time(struct target *target, int is_timed) {
+    uint64_t at = now_ms(), passed = at - target->woke;
+    int is_late = is_timed && passed > LATE_MS;
+    target->woke = at;
+    target->now += is_late ? LOOK_MS : passed;
+    target->turns++;
+    if (is_late) target->unread = target->queues_made / MOST_EVENTS + 2;
+}
+
 static int turn(struct target *target, int most_ms) {
     struct epoll_event events[MOST_EVENTS];
     int is_timed = target->queues || target->rests_until;
@@ -200,11 +211,13 @@ static int turn(struct target *target, int most_ms) {
     if (target->again) most_ms = 0;
     int n = epoll_wait(target->epoll, events, MOST_EVENTS, most_ms);
     if (n < 0 && errno != EINTR) return 0;
-    target->now = now_ms();
-    target->turns++;
+    tell_time(target, is_timed);
     if (target->again) send_again(target);
     for (int i = 0; i < n; i++) take_event(target, &events[i]);
-    if (target->now - target->looked >= LOOK_MS) look_at_times(target);
+    if (target->unread > 0)
+        target->unread -= n >= 0;
+    else if (target->now - target->looked >= LOOK_MS)
+        look_at_times(target);
     for (struct queue *it = target->ends_at ? target->queues : 0; it; it = it->next) queue_finish(it);
     if (target->sweep) sweep(target);
     return 1;
@@ -236,7 +249,7 @@ static int begin_listening(struct target *target) {
 int target_open(struct target *target, const struct options *options) {
     memset(target, 0, sizeof *target);
     target->options = *options;
-    target->now = target->looked = now_ms();
+    target->now = target->looked = target->woke = now_ms();
     const char *why = store_open(&target->store, options);
     if (why) {
         fprintf(stderr, "%s: %s\n", options->file ? options->file : "memory for the store", why);

@@ -170,7 +170,8 @@ struct target {
     int epoll, listener;
     int stop; /* an eventfd: once it is written to, the target ends */
     unsigned port;
-    uint64_t now; /* ms */
+    uint64_t now, woke; /* ms; when the loop had its last turn, by the system's clock */
+    uint32_t unread; /* turns, until all that hosts have sent is read, and they are judged */
     uint64_t turns; /* of the loop */
     int again; /* a queue has more to send */
     uint64_t rests_until; /* the listener, as there is no descriptor left; 0: it does not */
