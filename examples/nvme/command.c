@@ -250,7 +250,8 @@ struct queue *queue_of_job(struct job *job) {
 
 /* Its job is done. The controller may have gone meanwhile. */
 static void take_stored(struct command *command) {
-    if (command->then && command->job.status == STATUS_SUCCESS && command->queue->controller) command->then(command);
+    health_note(command->queue->target, &command->job);
+    if (command->then && command->queue->controller) command->then(command);
     command_complete(command, command->job.status);
 }
 
@@ -311,7 +312,18 @@ static int32_t release(struct command *command) {
     return endpoint_receive(&queue->endpoint, &command->capsule);
 }
 
+void command_hold(struct command *command) {
+    command->queue->begun--;
+}
+
+void command_resume(struct command *command, uint64_t result) {
+    command->queue->begun++;
+    command->result = result;
+    command_complete(command, STATUS_SUCCESS);
+}
+
 void command_forget(struct command *command) {
+    command->queue->begun++;
     if (release(command) != IWARP_OK) queue_close(command->queue);
 }
 

@@ -18,6 +18,7 @@ static struct controller *new_controller(struct target *target) {
     memset(controller, 0, sizeof *controller);
     controller->id = target->last_id;
     controller->io_queues = MOST_IO_QUEUES;
+    features_reset(controller);
     controller->heard = target->now;
     return controller;
 }
@@ -33,7 +34,7 @@ void controller_close(struct controller *controller) {
     close_io_queues(controller);
     if (admin) {
         admin->controller = 0;
-        if (admin->target->options.verbose) printf("controller %d: gone\n", controller->id);
+        say(admin->target, "controller %d: gone", controller->id);
         queue_close(admin);
     }
     controller->id = 0;
@@ -82,8 +83,9 @@ static void connect_admin(struct command *command, int discovery) {
     memcpy(controller->host_id, command->data + CONNECT_HOST_ID, HOST_ID_OCTETS);
     memcpy(controller->host_nqn, command->data + CONNECT_HOSTNQN, NQN_OCTETS);
     queue->controller = controller;
-    if (!queue->target->options.verbose) return;
-    printf("controller %d: %s of %s\n", controller->id, discovery ? "discovery" : "host", (const char *)controller->host_nqn);
+    char name[4 * NQN_OCTETS + 1];
+    escape(name, sizeof name, (const char *)controller->host_nqn);
+    say(queue->target, "controller %d: %s of %s", controller->id, discovery ? "discovery" : "host", name);
 }
 
 static void connect_io(struct command *command, uint16_t id) {
@@ -186,17 +188,26 @@ static void set_configuration(struct controller *controller, uint32_t configurat
     if (!(configuration & CC_ENABLE) && was & CC_ENABLE) {
         close_io_queues(controller);
         controller->state = 0;
-        controller->events = 0;
+        controller->shutdown = 0;
+        features_reset(controller);
+        events_drop(controller);
     }
-    if (!(configuration & CC_SHN)) controller->state &= ~(uint32_t)CSTS_SHUTDOWN;
+    if (configuration & CC_SHN) return;
+    controller->state &= ~(uint32_t)CSTS_SHUTDOWN;
+    controller->shutdown = 0;
 }
 
+/* The Flush of a shutdown is over. If the controller was reset meanwhile, that is no more of interest. */
 static void shut_down(struct command *command) {
     struct controller *controller = command->queue->controller;
-    controller->state = (controller->state & ~(uint32_t)CSTS_SHUTDOWN) | CSTS_SHUTDOWN_DONE;
+    uint32_t state = CSTS_SHUTDOWN_DONE | (command->job.status == STATUS_SUCCESS ? 0 : CSTS_FATAL);
+    if (controller->shutdown != command) return;
+    controller->shutdown = 0;
+    controller->state = (controller->state & ~(uint32_t)CSTS_SHUTDOWN) | state;
 }
 
-/* A shutdown is over, and its command answered, once what was written is durable. */
+/* A shutdown is over, and its command answered, once what was written is durable. If that fails, the answer and the controller's
+ * state say so. */
 static void run_set(struct command *command) {
     int size = command->sqe[PROPERTY_ATTRIB] & ATTRIB_SIZE;
     struct controller *controller = command->queue->controller;
@@ -209,6 +220,7 @@ static void run_set(struct command *command) {
     set_configuration(controller, configuration);
     if (shuts_down) {
         controller->state |= CSTS_SHUTDOWN_GOES_ON;
+        controller->shutdown = command;
         command->then = shut_down;
         command_store(command, JOB_FLUSH, 0, 0);
     } else {

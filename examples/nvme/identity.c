@@ -72,8 +72,10 @@ static void name_beside(const char *file, char *path, size_t n) {
 static void describe(int fd, char *text, size_t n) {
     struct statx facts = {0};
     if (statx(fd, "", AT_EMPTY_PATH, STATX_INO | STATX_BTIME, &facts) != 0) facts.stx_mask = 0;
-    if (!(facts.stx_mask & STATX_BTIME)) facts.stx_btime.tv_sec = 0, facts.stx_btime.tv_nsec = 0;
-    snprintf(text, n, " %llu %lld.%09u", (unsigned long long)facts.stx_ino, (long long)facts.stx_btime.tv_sec, facts.stx_btime.tv_nsec);
+    if (!(facts.stx_mask & STATX_BTIME)) facts.stx_btime = (struct statx_timestamp){0};
+    unsigned long long number = facts.stx_ino;
+    long long began = facts.stx_btime.tv_sec;
+    snprintf(text, n, " %llu %lld.%09u", number, began, facts.stx_btime.tv_nsec);
 }
 
 static ssize_t read_beside(const char *path, char *text, size_t n) {

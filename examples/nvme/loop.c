@@ -54,7 +54,7 @@ static void set_options(const struct target *target, int fd) {
 
 static void begin(struct target *target, int fd, uint32_t address) {
     if (!make_place(target)) {
-        if (target->options.verbose) printf("a connection was refused: there is no memory for more\n");
+        say(target, "a connection was refused: there is no memory for more");
         close(fd);
         return;
     }
@@ -143,7 +143,7 @@ static void look_at_times(struct target *target) {
     }
     for (struct controller *it = target->controllers; it < target->controllers + MOST_CONTROLLERS; it++)
         if (it->id != 0 && it->keep_alive != 0 && target->now - it->heard > it->keep_alive) {
-            if (target->options.verbose) printf("controller %d: no keep alive\n", it->id);
+            say(target, "controller %d: no keep alive", it->id);
             controller_close(it);
         }
 }
@@ -155,6 +155,16 @@ static void take_jobs(struct target *target) {
         next = job->next;
         command_stored(job);
         queue_run(queue_of_job(job));
+    }
+}
+
+/* The store has failed: hosts that asked for events are told. */
+static void tell_failure(struct target *target) {
+    target->told_failure = 1;
+    for (struct controller *it = target->controllers; it < target->controllers + MOST_CONTROLLERS; it++) {
+        if (it->id == 0 || !it->admin) continue;
+        events_tell(it);
+        queue_run(it->admin);
     }
 }
 
@@ -214,6 +224,7 @@ static int turn(struct target *target, int most_ms) {
     tell_time(target, is_timed);
     if (target->again) send_again(target);
     for (int i = 0; i < n; i++) take_event(target, &events[i]);
+    if (target->store.failed && !target->told_failure) tell_failure(target);
     if (target->unread > 0)
         target->unread -= n >= 0;
     else if (target->now - target->looked >= LOOK_MS)

@@ -68,7 +68,12 @@ static int open_stream(struct queue *queue) {
     struct target *target = queue->target;
     static const uint8_t none = 0;
     struct opening opening = {IWARP_RESPONDER, target->options.options, mulpdu_of(target, queue->fd), &none, 0};
-    return endpoint_open(&queue->endpoint, &target->handle, queue->domain ? queue->domain : 1, &opening) == IWARP_OK;
+    int32_t code = endpoint_open(&queue->endpoint, &target->handle, queue->domain ? queue->domain : 1, &opening);
+    if (code == IWARP_NUMBERS_SPENT && !target->told_spent) {
+        target->told_spent = 1;
+        complain("all numbers of streams were given: no connection is taken until the target is started anew");
+    }
+    return code == IWARP_OK;
 }
 
 struct queue *queue_open(struct target *target, int fd, uint32_t address) {
@@ -101,7 +106,7 @@ struct queue *queue_open(struct target *target, int fd, uint32_t address) {
 void queue_close(struct queue *queue) {
     struct controller *controller = queue->controller;
     if (queue->state == CLOSED) return;
-    if (queue->target->options.verbose) printf("queue %d of controller %d: closed\n", queue->id, controller ? controller->id : 0);
+    say(queue->target, "queue %d of controller %d: closed", queue->id, controller ? controller->id : 0);
     queue_enter(queue, CLOSED);
     close(queue->fd);
     commands_drop(queue);
@@ -216,7 +221,6 @@ static void take_posted(struct queue *queue, const struct iwarp_event *event) {
 }
 
 static void act(struct queue *queue, const struct iwarp_event *event) {
-    unsigned verbose = queue->target->options.verbose;
     switch (event->kind) {
     case IWARP_ASKED:
         answer_request(queue);
@@ -230,12 +234,11 @@ static void act(struct queue *queue, const struct iwarp_event *event) {
         break;
     case IWARP_FAULT:
     case IWARP_TERMINATED:
-        if (!verbose) break;
-        printf("queue %d: %s %d %d %d\n", queue->id, event->kind == IWARP_FAULT ? "fault" : "terminated", (int)event->layer,
-               (int)event->error, (int)event->code);
+        say(queue->target, "queue %d: %s %d %d %d", queue->id, event->kind == IWARP_FAULT ? "fault" : "terminated",
+            (int)event->layer, (int)event->error, (int)event->code);
         break;
     case IWARP_CLOSED_BY_PEER:
-        if (verbose) printf("start-up frame at fault: %d\n", (int)event->code);
+        say(queue->target, "start-up frame at fault: %d", (int)event->code);
         break;
     default: /* what is handed back goes with the queue */
         break;

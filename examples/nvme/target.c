@@ -159,7 +159,8 @@ int main(int n, char **words) {
     stop_by = target.stop;
     signal(SIGTERM, stop);
     signal(SIGINT, stop);
-    while (target_turn(&target, -1)) fflush(stdout);
+    while (target_turn(&target, -1)) {
+    }
     int told = target.ends_at != 0;
     return target_close(&target) && told ? 0 : 1;
 }

@@ -142,13 +142,24 @@ struct controller {
     uint32_t keep_alive; /* ms; 0: the host need not tell that it is there */
     uint64_t heard; /* when its last command came */
     uint32_t io_queues; /* granted */
-    uint32_t events; /* Async Event Requests in hand */
-    uint32_t event_mask;
+    struct command *shutdown; /* the one that shuts it down, while that goes on */
+    struct command *events[MOST_ASYNC_EVENTS]; /* Async Event Requests in hand, the oldest first */
+    uint32_t event_count, event_mask;
+    uint8_t told; /* critical warnings of which an event told */
+    uint16_t over, under; /* thresholds of its temperature, in kelvin */
+    uint32_t recovery, atomicity; /* features that change nothing */
     uint8_t host_nqn[NQN_OCTETS], host_id[HOST_ID_OCTETS];
     struct queue *admin, *io[MOST_IO_QUEUES + 1]; /* by queue number, from 1 */
 };
 
 /* ---- the target */
+
+/* Commands that failed by a fault of the store. */
+struct errors {
+    uint64_t count;
+    uint16_t status; /* of the last */
+    uint64_t block;
+};
 
 struct options {
     const char *file, *address, *told_address, *nqn, *serial; /* the last two may be null */
@@ -183,6 +194,8 @@ struct target {
     int sweep; /* a queue was closed, and is to be freed */
     uint64_t looked; /* when times were last looked at */
     uint16_t last_id;
+    int told_failure, told_spent; /* the store has failed, all numbers of streams were given: and it was said */
+    struct errors errors;
     struct controller controllers[MOST_CONTROLLERS];
 };
 
@@ -224,9 +237,30 @@ void command_fetched(struct command *command); /* its Read is done */
 void command_give_up(struct command *command); /* its Read never is: it goes with its queue, and is not run */
 void command_keep(struct queue *queue, struct spare *spare); /* keeps a buffer for the queue's next commands */
 void command_free_spares(struct queue *queue);
-void command_forget(struct command *command); /* it is never answered */
+void command_hold(struct command *command); /* it may never be answered: the target's end does not wait for it */
+void command_resume(struct command *command, uint64_t result); /* one that was held is answered */
+void command_forget(struct command *command); /* one that was held is never answered */
 void commands_go_on(struct queue *queue); /* starts and answers those that can be */
 struct queue *queue_of_job(struct job *job);
+
+/* health.c: errors of the store; what is wrong, as bits of the health log; and events that tell of it */
+void health_note(struct target *target, const struct job *job);
+uint8_t health_warnings(const struct target *target, const struct controller *controller);
+void events_tell(struct controller *controller);
+void events_drop(struct controller *controller); /* it is reset */
+void run_async_event(struct command *command);
+
+/* logs.c, features.c */
+uint16_t check_log(struct command *command);
+void run_log(struct command *command);
+void features_reset(struct controller *controller);
+uint16_t check_get_features(struct command *command);
+void run_get_features(struct command *command);
+void run_set_features(struct command *command);
+
+/* Texts in fields of n octets, filled up with spaces, or with zeroes. */
+void set_text(uint8_t *at, size_t n, const char *text);
+void set_string(uint8_t *at, size_t n, const char *text);
 
 /* fabrics.c, admin.c, io.c */
 extern const struct operation fabrics_operations[], admin_operations[], discovery_operations[], io_operations[];
