@@ -3,51 +3,42 @@
  *     exercise PORT OPTIONS TEST..
  *
  * runs each test against the target at that port of this machine, and prints `TEST: ok`, or the line of this file at which it
- * failed, with status 1. OPTIONS is IWARP_CRC (2) or 0. Some tests need the target's process in the environment, as TARGET, and
- * those with a target that is killed a file that keeps what the disk may have, as MODEL. */
-#include "breaks.h"
+ * failed, with status 1. OPTIONS is IWARP_CRC (2) or 0. Some tests need the target's process in the environment, as TARGET, its
+ * subsystem's name, as NQN, or the file by which its calls are harmed, as HARM (harm.c); those with a target that is killed a file
+ * that keeps what the disk may have, as MODEL. */
+#include "exercise.h"
 
 #include <dirent.h>
 
-enum { MULPDU = 16384, TRANSFER = 131072, LONGEST = 1048576, MOST_HOSTS = 255, CONNECTS = 200, SILENT = 300 };
+enum { MOST_HOSTS = 255, CONNECTS = 200, SILENT = 300 };
 
-#define NQN "nqn.2026-11.example:iwarp"
-#define CHECK(answer)                                                     \
-    do {                                                                  \
-        if (!(answer)) {                                                  \
-            printf("%s: line %d: %s\n", test_name, __LINE__, #answer);    \
-            exit(1);                                                      \
-        }                                                                 \
-    } while (0)
-
-static const char *test_name;
-static unsigned port;
+const char *test_name, *nqn = "nqn.2026-11.example:iwarp";
+unsigned port;
 static uint32_t options;
 static uint64_t seed = 1;
 
-static struct host new_host(void) {
-    return (struct host){.address = "127.0.0.1", .nqn = NQN, .port = port, .options = options, .mulpdu = MULPDU};
+struct host new_host(void) {
+    return (struct host){.address = "127.0.0.1", .nqn = nqn, .port = port, .options = options, .mulpdu = MULPDU};
 }
 
-static uint32_t random_number(uint32_t below) {
+uint32_t random_number(uint32_t below) {
     seed = seed * 6364136223846793005u + 1442695040888963407u;
     return (uint32_t)(seed >> 33) % below;
 }
 
-/* Octets that tell blocks, and what was written there, apart. */
-static void fill(uint8_t *at, size_t n, uint64_t mark) {
+void fill(uint8_t *at, size_t n, uint64_t mark) {
     for (size_t i = 0; i < n; i += 8, mark = mark * 6364136223846793005u + 1442695040888963407u) set_field(at + i, 8, mark);
 }
 
 /* ---- reading and writing */
 
-static uint8_t *map_blocks(struct host_queue *queue, uint16_t slot, uint8_t opcode, uint64_t from, size_t n, uint8_t type) {
+uint8_t *map_blocks(struct host_queue *queue, uint16_t slot, uint8_t opcode, uint64_t from, size_t n, uint8_t type) {
     uint8_t *sqe = host_command(queue, slot, opcode, NSID);
     host_blocks(sqe, from, (uint32_t)(n / HOST_LBA));
     return host_map(queue, slot, n, type);
 }
 
-static int write_blocks(struct host_queue *queue, uint64_t from, const uint8_t *octets, size_t n, uint8_t type) {
+int write_blocks(struct host_queue *queue, uint64_t from, const uint8_t *octets, size_t n, uint8_t type) {
     if (type == SGL_DATA_OFFSET) {
         uint8_t *sqe = host_command(queue, 0, IO_WRITE, NSID);
         host_blocks(sqe, from, (uint32_t)(n / HOST_LBA));
@@ -58,7 +49,7 @@ static int write_blocks(struct host_queue *queue, uint64_t from, const uint8_t *
     return host_do(queue, 0);
 }
 
-static int read_blocks(struct host_queue *queue, uint64_t from, uint8_t *octets, size_t n, uint8_t type) {
+int read_blocks(struct host_queue *queue, uint64_t from, uint8_t *octets, size_t n, uint8_t type) {
     const uint8_t *at = map_blocks(queue, 1, IO_READ, from, n, type);
     int status = host_do(queue, 1);
     if (status == 0) memcpy(octets, at, n);
@@ -197,7 +188,7 @@ static void full_depth(void) {
 
 /* ---- the other commands */
 
-static int is_zero(const uint8_t *octets, size_t n) {
+int is_zero(const uint8_t *octets, size_t n) {
     for (size_t i = 0; i < n; i++)
         if (octets[i] != 0) return 0;
     return 1;
@@ -265,7 +256,7 @@ static void administers(void) {
     struct host_queue *queue = host.queues[0];
     host_command(queue, 0, ADMIN_IDENTIFY, 0)[SQE_CDW10] = CNS_CONTROLLER;
     const uint8_t *id = host_map(queue, 0, IDENTIFY_OCTETS, SGL_KEYED_INVALIDATE);
-    CHECK(host_do(queue, 0) == 0 && strcmp((const char *)id + ID_SUBNQN, NQN) == 0);
+    CHECK(host_do(queue, 0) == 0 && strcmp((const char *)id + ID_SUBNQN, nqn) == 0);
     CHECK(field(id + ID_CNTLID, 2) == host.controller && id[ID_SQES] == 0x66 && id[ID_CQES] == 0x44);
     host_command(queue, 0, ADMIN_IDENTIFY, 0)[SQE_CDW10] = CNS_NAMESPACE_LIST;
     id = host_map(queue, 0, IDENTIFY_OCTETS, SGL_KEYED_INVALIDATE);
@@ -313,7 +304,7 @@ static void discovers(void) {
     set_field(sqe + SQE_CDW10, 4, LOG_DISCOVERY | 511u << 16);
     const uint8_t *log = host_map(queue, 0, 2048, SGL_KEYED_INVALIDATE), *entry = log + DISCOVERY_ENTRY;
     CHECK(host_do(queue, 0) == 0 && field(log + DISCOVERY_NUMREC, 8) == 1);
-    CHECK(strcmp((const char *)entry + ENTRY_SUBNQN, NQN) == 0 && memcmp(entry + ENTRY_TRADDR, "127.0.0.1 ", 10) == 0);
+    CHECK(strcmp((const char *)entry + ENTRY_SUBNQN, nqn) == 0 && memcmp(entry + ENTRY_TRADDR, "127.0.0.1 ", 10) == 0);
     CHECK(strtoull((const char *)entry + ENTRY_TRSVCID, 0, 10) == port);
     host_command(queue, 0, ADMIN_IDENTIFY, 0)[SQE_CDW10] = CNS_NAMESPACE;
     host_map(queue, 0, IDENTIFY_OCTETS, SGL_KEYED);
@@ -409,7 +400,7 @@ static void refuses_connects(void) {
     other.nqn = "nqn.2026-11.example:another";
     CHECK(host_open(&other, 0, 32) && host_connect(&other, 0) == busy);
     CHECK(other.queues[0]->slots[0].result == (INVALID_IN_DATA | CONNECT_SUBNQN));
-    other.nqn = NQN;
+    other.nqn = nqn;
     CHECK(host_connect(&other, 0) == 0); /* the queue is still there */
     host_command(other.queues[0], 0, ADMIN_KEEP_ALIVE, 0);
     CHECK(host_do(other.queues[0], 0) == early);
@@ -578,8 +569,7 @@ static void cut_short(void) {
 
 enum { AWAITED = 65536, PART_OF_IT = 16370, BETWEEN = AWAITED / HOST_LBA, EARLIER = 64, PAGE = 4096 };
 
-/* Deallocates blocks, by a range in the host's memory. */
-static uint8_t *map_range(struct host_queue *queue, uint16_t slot, uint64_t from, uint32_t count) {
+uint8_t *map_range(struct host_queue *queue, uint16_t slot, uint64_t from, uint32_t count) {
     uint8_t *sqe = host_command(queue, slot, IO_DATASET_MANAGEMENT, NSID);
     sqe[SQE_CDW11] = DSM_DEALLOCATE;
     uint8_t *range = host_map(queue, slot, PAGE, SGL_KEYED);
@@ -676,7 +666,7 @@ static void ends_badly(void) {
 
 /* ---- what wears a target down */
 
-static int target_process(void) {
+int target_process(void) {
     const char *text = getenv("TARGET");
     CHECK(text);
     return (int)strtol(text, 0, 10);
@@ -839,13 +829,15 @@ static void is_read_only(void) {
 enum { VERSIONED = 4096, IN_HAND = 16, LONGEST_RUN = 40, KILL_AFTER = 300 };
 
 /* A block has the version that was answered with success last, or the one that was asked for last; 0: zeroes. At most one Write
- * of a block is under way. */
+ * of a block is under way. At a loss of power it has at least the one that was flushed. */
 static struct {
-    uint32_t sure[VERSIONED], asked[VERSIONED], rounds;
+    uint32_t sure[VERSIONED], asked[VERSIONED], flushed[VERSIONED], rounds;
 } disk_model;
 
 static struct {
     uint32_t from, count; /* 0: a Flush, or nothing */
+    int durable;
+    uint32_t sure[VERSIONED]; /* a Flush: when it was asked for */
 } runs[3][IN_HAND];
 
 static uint64_t mark_of(uint32_t block, uint32_t version) {
@@ -866,8 +858,8 @@ static void save_model(void) {
     CHECK(file && fwrite(&disk_model, sizeof disk_model, 1, file) == 1 && fclose(file) == 0);
 }
 
-/* Whether each block has what it may have. Which of the two it has is known then. */
-static void stands_by(void) {
+/* Whether each block has what it may have: which version, is known then. */
+static void compare_blocks(int after_loss) {
     static uint8_t wanted[HOST_LBA], zeroes[HOST_LBA], in[LONGEST_RUN * HOST_LBA];
     struct host host = new_host();
     load_model();
@@ -877,11 +869,34 @@ static void stands_by(void) {
         if (block % 32 == 0) CHECK(read_blocks(host.queues[1], block, in, 32 * HOST_LBA, SGL_KEYED) == 0);
         uint32_t version = (uint32_t)(field(at, 8) >> 32);
         fill(wanted, HOST_LBA, mark_of(block, version));
-        CHECK(version == disk_model.sure[block] || version == disk_model.asked[block]);
+        int is_flushed = version >= disk_model.flushed[block] && version <= disk_model.asked[block];
+        CHECK(after_loss ? is_flushed : version == disk_model.sure[block] || version == disk_model.asked[block]);
         CHECK(memcmp(at, version == 0 ? zeroes : wanted, HOST_LBA) == 0);
         disk_model.sure[block] = disk_model.asked[block] = version;
+        if (after_loss) disk_model.flushed[block] = version;
     }
     save_model();
+    host_end(&host);
+}
+
+static void stands_by(void) {
+    compare_blocks(0);
+}
+
+/* After a loss of power: what was flushed, or written with FUA, is there. */
+static void stood_flushed(void) {
+    uint32_t blocks = 0;
+    load_model();
+    for (uint32_t block = 0; block < VERSIONED; block++) blocks += disk_model.flushed[block] > 0;
+    CHECK(blocks > VERSIONED / 8);
+    compare_blocks(1);
+}
+
+static void flushes(void) {
+    struct host host = new_host();
+    CHECK(host_begin(&host, 1, HOST_DEPTH));
+    host_command(host.queues[1], 0, IO_FLUSH, NSID);
+    CHECK(host_do(host.queues[1], 0) == 0);
     host_end(&host);
 }
 
@@ -906,9 +921,12 @@ static void begin_run(struct host_queue *queue, uint16_t slot) {
         for (uint32_t i = 0; i < count; i++) fill(at + i * HOST_LBA, HOST_LBA, mark_of(from + i, ++disk_model.asked[from + i]));
         if (is_inside) host_blocks(host_command(queue, slot, IO_WRITE, NSID), from, count);
         if (is_inside) host_put(queue, slot, inside, count * HOST_LBA);
-        if (random_number(8) == 0) queue->slots[slot].capsule[SQE_CDW12 + 3] |= RW_FUA >> 24;
+        runs[queue->id][slot].durable = random_number(8) == 0;
+        if (runs[queue->id][slot].durable) queue->slots[slot].capsule[SQE_CDW12 + 3] |= RW_FUA >> 24;
         runs[queue->id][slot].from = from;
         runs[queue->id][slot].count = count;
+    } else {
+        memcpy(runs[queue->id][slot].sure, disk_model.sure, sizeof disk_model.sure);
     }
     host_submit(queue, slot);
 }
@@ -919,6 +937,11 @@ static void end_run(struct host_queue *queue, uint16_t slot) {
     for (uint32_t i = 0; i < runs[queue->id][slot].count; i++) {
         uint32_t block = runs[queue->id][slot].from + i;
         disk_model.sure[block] = disk_model.asked[block];
+        if (runs[queue->id][slot].durable) disk_model.flushed[block] = disk_model.asked[block];
+    }
+    for (uint32_t block = 0; runs[queue->id][slot].count == 0 && block < VERSIONED; block++) {
+        uint32_t version = runs[queue->id][slot].sure[block];
+        if (version > disk_model.flushed[block]) disk_model.flushed[block] = version;
     }
     runs[queue->id][slot].count = 0;
     queue->slots[slot].answered = 0;
@@ -1025,12 +1048,22 @@ static const struct {
     {"is-stopped", is_stopped},   {"was-stopped", was_stopped},
     {"read-only", is_read_only},  {"not-allowed", is_not_allowed},
     {"hangs", hangs},             {"few-places", few_places},
+    {"overtakes", overtakes},     {"is-stale", is_stale},
+    {"bursts", bursts},           {"goes-and-comes", goes_and_comes},
+    {"pauses", pauses},           {"leaves-waiting", leaves_waiting},
+    {"identity", says_who_it_is}, {"takes-its-memory", takes_its_memory},
+    {"fails", store_fails},       {"shuts-down-badly", shuts_down_badly},
+    {"features", has_features},   {"reads-committed", reads_committed},
+    {"logs", has_logs},           {"is-interrupted", is_interrupted},
+    {"flushes", flushes},         {"strange-name", has_a_strange_name},
+    {"stood-flushed", stood_flushed}, {"holds-device", holds_device},
 };
 
 int main(int n, char **words) {
     if (n < 4) return 2;
     struct rlimit files = {4096, 4096};
     setrlimit(RLIMIT_NOFILE, &files);
+    if (getenv("NQN")) nqn = getenv("NQN");
     port = (unsigned)strtoull(words[1], 0, 10);
     options = (uint32_t)strtoull(words[2], 0, 10);
     for (int i = 3; i < n; i++) {

@@ -30,6 +30,7 @@ static void received(struct host_queue *queue, const struct iwarp_event *event) 
     slot->answered = 1;
     slot->status = (uint16_t)(field(cqe + CQE_STATUS, 2) >> 1);
     slot->result = field(cqe + CQE_RESULT, 8);
+    slot->number = queue->answers;
     queue->in_hand--;
     queue->answers++;
     must(endpoint_receive(&queue->endpoint, &queue->response), "receive");
@@ -240,7 +241,8 @@ int host_connect(struct host *host, uint16_t id) {
     memset(data + CONNECT_HOST_ID, 1, HOST_ID_OCTETS);
     set_field(data + CONNECT_CNTLID, 2, id == 0 ? CNTLID_DYNAMIC : host->controller);
     memcpy(data + CONNECT_SUBNQN, host->nqn, strlen(host->nqn));
-    memcpy(data + CONNECT_HOSTNQN, host_nqn, sizeof host_nqn);
+    const char *name = host->own_name ? host->own_name : host_nqn;
+    memcpy(data + CONNECT_HOSTNQN, name, strlen(name));
     if (id == 0)
         memcpy(host_map(queue, 0, sizeof data, SGL_KEYED_INVALIDATE), data, sizeof data);
     else

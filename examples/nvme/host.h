@@ -20,7 +20,7 @@ struct slot {
     uint8_t capsule[HOST_CAPSULE];
     size_t n; /* octets of the capsule */
     uint16_t status;
-    uint64_t result;
+    uint64_t result, number; /* of the answer: how many came before at its queue */
 };
 
 struct host_queue {
@@ -37,6 +37,7 @@ struct host_queue {
 
 struct host {
     const char *address, *nqn;
+    const char *own_name; /* as it gives it; null: one of its own */
     const char *from; /* the address of its own that it connects from; null: any */
     unsigned port;
     uint32_t options, mulpdu, keep_alive;
