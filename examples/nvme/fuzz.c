@@ -6,8 +6,9 @@
  * sends capsules that are valid but for what was changed at random: fields of the command, its descriptor, the data in the
  * capsule, its length; Connects; start-up frames; Writes to the sinks of another host. What the target writes must lie where its
  * command said. Each life of the host ends in some way: the connection is closed or reset, a Read of the target stays unanswered
- * and a wrong frame comes, a key is wrong, the target is refused memory, its store fails. After each the whole disk is compared
- * with a model (model.h). The other host, which is honest, writes and reads all the while, and must not notice.
+ * and a wrong frame comes, a key is wrong, the target is refused memory, its store fails. The other host, which is honest, writes
+ * and reads at once what that one was at, while the target's threads are slow to end it, and must not notice. Then the whole disk
+ * is compared with a model (model.h).
  *
  * The disk is memory, or the file, which is made. `large` is 100,000 capsules and 1,000 lives over memory, and as many over the
  * file, if one is named, else over memory once more. */
@@ -65,10 +66,10 @@ static struct host new_host(void) {
 
 /* ---- the disk and its model */
 
-/* What a slot asks for: a change, by its number; a Read; a Flush; or what must not succeed. */
+/* What a slot asks for: changes, by their numbers; a Read; a Flush; or what must not succeed. */
 struct asks {
-    enum { NOTHING, CHANGES, READS, SYNCS, FAILS } kind;
-    size_t change;
+    enum { NOTHING, CHANGES, CLEARS, READS, SYNCS, FAILS } kind;
+    size_t change, changes; /* the first, and how many; CLEARS: ranges */
     uint64_t begun;
 };
 
@@ -88,6 +89,23 @@ static void look(void) {
         die("a block has what nobody sent for it");
     }
     looks++;
+}
+
+/* How many queues the target has whose end it does not know. */
+static uint32_t open_queues(void) {
+    uint32_t count = 0;
+    for (const struct queue *it = target.queues; it; it = it->next) count += it->state != CLOSED;
+    return count;
+}
+
+/* Waits until the target knows that all others have ended. It may still be at what they asked for. */
+static void wait_for_ends(uint32_t count) {
+    patience = 1;
+    for (int i = 0; open_queues() > count; i++) {
+        if (i == WAITS) die("connections are not ended");
+        turn();
+    }
+    patience = 0;
 }
 
 /* Waits until the target has only so many queues. */
@@ -134,17 +152,20 @@ static int has_blocks(uint64_t from, uint64_t count) {
 }
 
 /* What a deallocation may clear. */
-static void note_ranges(const struct host_queue *queue, const struct slot *slot) {
+static void note_ranges(const struct host_queue *queue, const struct slot *slot, struct asks *it) {
     uint32_t count = slot->capsule[SQE_CDW10] + 1u, n = (uint32_t)field(slot->capsule + SQE_SGL + SGL_LENGTH, 3);
     const uint8_t *range = described(queue, slot, n);
-    struct change all = {.count = model.blocks, .any = 1};
+    struct change all = {.count = model.blocks, .any = 1, .may = 1};
     if (!(slot->capsule[SQE_CDW11] & DSM_DEALLOCATE)) return;
+    it->kind = CLEARS;
+    it->change = model.count;
     if (is_foreign(queue, slot)) model_begin(&model, &all, 0);
-    if (is_foreign(queue, slot) || !range || n < count * RANGE_OCTETS) return;
-    for (; count > 0; count--, range += RANGE_OCTETS) {
-        struct change change = {.from = field(range + RANGE_SLBA, 8), .count = field(range + RANGE_NLB, 4)};
-        if (has_blocks(change.from, change.count)) model_begin(&model, &change, 0);
-    }
+    if (!is_foreign(queue, slot) && range && n >= count * RANGE_OCTETS)
+        for (; count > 0; count--, range += RANGE_OCTETS) {
+            struct change change = {.from = field(range + RANGE_SLBA, 8), .count = field(range + RANGE_NLB, 4), .may = 1};
+            if (has_blocks(change.from, change.count)) model_begin(&model, &change, 0);
+        }
+    it->changes = model.count - it->change;
 }
 
 /* Notes what a capsule asks for, as it is sent. */
@@ -152,18 +173,20 @@ static void note(const struct host_queue *queue, uint16_t number) {
     const struct slot *slot = &queue->slots[number];
     const uint8_t *sqe = slot->capsule;
     struct asks *it = &asks[queue->id][number];
-    *it = (struct asks){NOTHING, 0, ++model.clock};
+    *it = (struct asks){NOTHING, 0, 0, ++model.clock};
     if (queue->id == 0 || slot->n < SQE_OCTETS) return;
     struct change change = {.from = field(sqe + SQE_CDW10, 8), .count = (field(sqe + SQE_CDW12, 4) & RW_NLB) + 1};
     change.any = sqe[SQE_OPCODE] == IO_WRITE && is_foreign(queue, slot);
+    change.durable = (field(sqe + SQE_CDW12, 4) & RW_FUA) != 0;
     const uint8_t *data = sqe[SQE_OPCODE] == IO_WRITE ? described(queue, slot, change.count * LBA_OCTETS) : 0;
-    if (sqe[SQE_OPCODE] == IO_DATASET_MANAGEMENT) note_ranges(queue, slot);
+    if (sqe[SQE_OPCODE] == IO_DATASET_MANAGEMENT) note_ranges(queue, slot, it);
     if (sqe[SQE_OPCODE] == IO_READ) it->kind = READS;
     if (sqe[SQE_OPCODE] == IO_FLUSH) it->kind = SYNCS;
     if (sqe[SQE_OPCODE] != IO_WRITE && sqe[SQE_OPCODE] != IO_WRITE_ZEROES) return;
     it->kind = FAILS;
     if (!has_blocks(change.from, change.count) || (sqe[SQE_OPCODE] == IO_WRITE && !data)) return;
     it->kind = CHANGES;
+    it->changes = 1;
     it->change = model_begin(&model, &change, change.any ? 0 : data);
 }
 
@@ -185,14 +208,29 @@ static void check_read(const struct host_queue *queue, const struct slot *slot, 
 static void note_answer(const struct host_queue *queue, uint16_t number) {
     struct asks *it = &asks[queue->id][number];
     const struct slot *slot = &queue->slots[number];
-    if (slot->in_hand || !slot->answered) return;
     if (it->kind == FAILS && slot->status == 0) die("a write succeeds that has no data or no blocks");
     int counts_on_it = it->kind == CHANGES || it->kind == SYNCS;
     if (counts_on_it && slot->status == 0 && failed && it->begun > failed) die("a store that has failed takes a write, or a Flush");
     if (it->kind == READS && slot->status == 0) check_read(queue, slot, it->begun);
     enum outcome outcome = slot->status == 0 ? SUCCEEDED : is_of_store(slot->status) ? FAILED : REFUSED;
-    if (it->kind == CHANGES) model_end(&model, it->change, outcome);
+    for (size_t i = 0; i < it->changes; i++) model_end(&model, it->change + i, outcome);
     it->kind = NOTHING;
+    it->changes = 0;
+}
+
+/* The slot whose answer came first, of those that are not noted; or null. */
+static const struct slot *next_answer(const struct host_queue *queue) {
+    const struct slot *next = 0;
+    for (uint16_t i = 0; i < queue->depth; i++) {
+        const struct slot *it = &queue->slots[i];
+        int is_new = !it->in_hand && it->answered && asks[queue->id][i].kind != NOTHING;
+        if (is_new && (!next || it->number < next->number)) next = it;
+    }
+    return next;
+}
+
+static void note_answers(const struct host_queue *queue) {
+    for (const struct slot *it; (it = next_answer(queue));) note_answer(queue, (uint16_t)(it - queue->slots));
 }
 
 /* ---- capsules */
@@ -357,7 +395,7 @@ static void await_some(struct host_queue *queue, const uint16_t *slots, int coun
         for (int j = 0; j < count; j++) left += queue->slots[slots[j]].in_hand;
     }
     patience = 0;
-    for (uint16_t slot = 0; slot < queue->depth; slot++) note_answer(queue, slot);
+    note_answers(queue);
     for (int j = 0; j < count; j++) {
         const struct slot *slot = &queue->slots[slots[j]];
         answered += (unsigned)slot->answered;
@@ -526,9 +564,10 @@ static void fail_now_and_then(struct host *host, enum end how) {
 /* The life of a hostile host. */
 static void live(void) {
     struct host host = new_host();
-    uint32_t queues = target.queues_made;
+    uint32_t queues = open_queues();
     if (!host_begin(&host, 1, HOSTILE_DEPTH)) die("a host is not served");
     struct host_queue *queue = host.queues[1];
+    luck.are_lazy = 1;
     spoils = one_in(2);
     for (uint32_t left = random_number(2 * LIFE / BURST); left > 0 && !host.queues[0]->ended && !queue->ended; left--)
         burst(host.queues[random_number(4) > 0]);
@@ -546,9 +585,10 @@ static void live(void) {
     lives++;
     ended += host.queues[0]->ended || queue->ended || queue->fd < 0;
     host_end(&host);
-    wait_for_queues(queues);
+    wait_for_ends(queues);
     luck.memory_fails = luck.store_fails = 0;
-    look();
+    model_abandon(&model);
+    memset(asks, 0, sizeof asks);
 }
 
 /* ---- the honest host */
@@ -581,10 +621,19 @@ static void reach(struct host_queue *honest) {
     host_end(&hostile);
 }
 
+/* Blocks that a host was at which is gone, if there are some. */
+static uint64_t choose_blocks(uint64_t count) {
+    uint64_t from = random_number((uint32_t)(model.blocks - count));
+    uint32_t found = 0;
+    for (const struct change *it = model.changes; it < model.changes + model.count; it++)
+        if (it->outcome == UNANSWERED && it->count > 0 && one_in(++found)) from = it->from + random_number((uint32_t)it->count);
+    return from < model.blocks - count ? from : model.blocks - count;
+}
+
 static void check_honest(struct host *honest) {
     struct host_queue *queue = honest->queues[1];
     struct change change = {.count = HONEST_OCTETS / LBA_OCTETS};
-    change.from = random_number((uint32_t)(honest->blocks - change.count));
+    change.from = choose_blocks(change.count);
     uint64_t from = change.from;
     host_blocks(host_command(queue, 0, IO_WRITE, NSID), from, HONEST_OCTETS / LBA_OCTETS);
     uint8_t *out = host_map(queue, 0, HONEST_OCTETS, SGL_KEYED_INVALIDATE);
@@ -599,7 +648,7 @@ static void check_honest(struct host *honest) {
     const uint8_t *in = host_map(queue, 1, HONEST_OCTETS, SGL_KEYED_INVALIDATE);
     if (host_do(queue, 1) != 0 || memcmp(in, out, HONEST_OCTETS) != 0) die("the honest host reads something else");
     patience = 0;
-    look();
+    luck.are_lazy = 0;
 }
 
 /* ---- limits, with the honest host */
@@ -655,10 +704,33 @@ static void check_syncs(struct host *honest) {
     if (target.store.ram ? count > 0 : count == 0 || count > AT_ONCE / 4) die("each Flush has a sync of its own");
 }
 
+/* Once all numbers of streams were given, connections are closed, and a line says why: one. */
+static void check_spent(void) {
+    char said[1024];
+    int ends_of_pipe[2], error = dup(STDERR_FILENO), lines = 0;
+    if (error < 0 || pipe(ends_of_pipe) != 0 || dup2(ends_of_pipe[1], STDERR_FILENO) < 0) die("no pipe");
+    luck.spent = 1;
+    for (int i = 0; i < 2; i++) {
+        int fd = plain_connection();
+        for (int j = 0; j < 4; j++) turn();
+        if (read(fd, said, 1) != 0) die("a connection is taken though there is no number");
+        close(fd);
+    }
+    luck.spent = 0;
+    dup2(error, STDERR_FILENO);
+    close(ends_of_pipe[1]);
+    ssize_t n = read(ends_of_pipe[0], said, sizeof said);
+    for (ssize_t i = 0; i < n; i++) lines += said[i] == '\n';
+    if (lines != 1) die("it does not say that all numbers were given");
+    close(ends_of_pipe[0]);
+    close(error);
+}
+
 static void check_limits(struct host *honest) {
     check_turns(honest);
     check_patience(honest);
     check_syncs(honest);
+    if (!target.told_spent) check_spent();
     wait_for_queues(2);
 }
 
@@ -699,10 +771,11 @@ static void run(unsigned long capsules, unsigned long least_lives, const char *p
         if (lives == lives_before) check_limits(&honest);
         while (!failed && (sent - sent_before < capsules || lives - lives_before < least_lives)) {
             live();
+            if (!failed) check_honest(&honest);
             spoil_connect();
             spoil_start();
             wait_for_queues(2);
-            if (!failed) check_honest(&honest);
+            look();
         }
         host_end(&honest);
         wait_for_queues(0);

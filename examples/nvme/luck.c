@@ -28,6 +28,9 @@ ssize_t __real_pread(int fd, void *octets, size_t n, off_t at);
 ssize_t __real_pwrite(int fd, const void *octets, size_t n, off_t at);
 ssize_t __real_send(int fd, const void *octets, size_t n, int flags);
 int __real_accept4(int fd, struct sockaddr *address, socklen_t *n, int flags);
+int __real_pthread_cond_wait(pthread_cond_t *condition, pthread_mutex_t *mutex);
+int32_t __real_iwarp_open_next(struct iwarp *handle, uint32_t pd, uint32_t role, uint32_t options, const uint8_t *data, size_t n,
+                               uint32_t *stream);
 int __real_fdatasync(int fd);
 int __real_fallocate(int fd, int mode, off_t at, off_t n);
 
@@ -84,4 +87,21 @@ int __wrap_accept4(int fd, struct sockaddr *address, socklen_t *n, int flags) {
     int accepted = __real_accept4(fd, address, n, flags);
     luck.accepted += luck.in_turn && accepted >= 0;
     return accepted;
+}
+
+/* Now and then a thread that was woken sleeps on, and others come before it. */
+int __wrap_pthread_cond_wait(pthread_cond_t *condition, pthread_mutex_t *mutex) {
+    enum { MOST_US = 3000 };
+    int status = __real_pthread_cond_wait(condition, mutex);
+    if (!luck.are_lazy || next_number() % 4 > 0) return status;
+    pthread_mutex_unlock(mutex);
+    usleep(next_number() % MOST_US);
+    pthread_mutex_lock(mutex);
+    return status;
+}
+
+int32_t __wrap_iwarp_open_next(struct iwarp *handle, uint32_t pd, uint32_t role, uint32_t options, const uint8_t *data, size_t n,
+                               uint32_t *stream) {
+    if (luck.in_turn && luck.spent) return IWARP_NUMBERS_SPENT;
+    return __real_iwarp_open_next(handle, pd, role, options, data, n, stream);
 }

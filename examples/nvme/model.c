@@ -49,6 +49,12 @@ void model_end(struct model *model, size_t number, enum outcome outcome) {
     model->changes[number].ended = ++model->clock;
 }
 
+void model_abandon(struct model *model) {
+    model->clock++;
+    for (struct change *it = model->changes; it < model->changes + model->count; it++)
+        if (it->ended == UINT64_MAX) it->ended = model->clock;
+}
+
 /* ---- what blocks may have */
 
 static int touches(const struct change *change, uint64_t block) {
@@ -59,11 +65,16 @@ static int is_sure(const struct change *change) {
     return change->outcome == SUCCEEDED && !change->may;
 }
 
-/* When the last change was begun that surely was done, and ended before a time. */
+/* When a change surely was done. */
+static uint64_t done_after(const struct change *change) {
+    return change->durable ? change->begun : change->ended;
+}
+
+/* When the last change was done that surely was, of those that ended before a time. */
 static uint64_t last_sure(const struct model *model, uint64_t block, uint64_t before) {
     uint64_t last = 0;
     for (const struct change *it = model->changes; it < model->changes + model->count; it++)
-        if (touches(it, block) && is_sure(it) && it->ended < before && it->begun > last) last = it->begun;
+        if (touches(it, block) && is_sure(it) && it->ended < before && done_after(it) > last) last = done_after(it);
     return last;
 }
 
@@ -73,8 +84,8 @@ static int has(const struct change *change, uint64_t block, const uint8_t *octet
     return change->any || memcmp(octets, wanted, BLOCK) == 0;
 }
 
-/* Whether a block may have these octets for who asks at a time. A change that was over before one began that was surely done is not
- * to be seen. */
+/* Whether a block may have these octets for who asks at a time. Changes are done in the order of their answers: one that ended before
+ * another that was surely done is not to be seen. */
 static int may_have(const struct model *model, uint64_t block, const uint8_t *octets, uint64_t asked) {
     uint64_t last = last_sure(model, block, asked);
     if (last == 0 && memcmp(octets, model->octets + block * BLOCK, BLOCK) == 0) return 1;
