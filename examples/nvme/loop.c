@@ -150,11 +150,21 @@ static void look_at_times(struct target *target) {
 
 /* ---- the loop */
 
+/* All that is done is answered before a queue goes on, and takes commands that are done at once: so these are answered later. */
 static void take_jobs(struct target *target) {
-    for (struct job *job = store_done(&target->store), *next; job; job = next) {
-        next = job->next;
+    struct queue *woken = 0;
+    for (struct job *job = store_done(&target->store); job; job = job->next) {
+        struct queue *queue = queue_of_job(job);
         command_stored(job);
-        queue_run(queue_of_job(job));
+        if (!queue->is_woken) {
+            queue->is_woken = 1;
+            queue->next_woken = woken;
+            woken = queue;
+        }
+    }
+    for (struct queue *it = woken; it; it = it->next_woken) {
+        it->is_woken = 0;
+        queue_run(it);
     }
 }
 

@@ -120,6 +120,8 @@ struct queue {
     struct posted posted[MOST_POSTED];
     uint32_t first, count; /* of those */
     uint32_t reads, jobs; /* Reads that are posted; commands that workers have */
+    int is_woken; /* some of these are done, and it is to go on */
+    struct queue *next_woken; /* of those for which that is so */
     struct spare spares[MOST_COMMANDS];
     uint32_t spare_count;
     size_t held; /* octets of the queue's buffers */
