@@ -84,7 +84,7 @@ void is_stale(void) {
 /* ---- bursts */
 
 enum burst { CHAIN, ZEROES, WRITES, READS, BURSTS };
-enum { BURST_QUEUES = 7, MOST_DELAY = 100, TRIES = 3, MOST_BURST = 20000 };
+enum { BURST_QUEUES = 7, MOST_DELAY = 100, TRIES = 5, MOST_BURST = 20000 };
 
 /* Deallocates 256 ranges that lie between those of all other commands, but for the last: each command's touches the next one's. */
 static void put_chain(struct host_queue *queue, uint16_t slot, uint32_t number, uint32_t all) {
@@ -156,7 +156,7 @@ static int delay_by(enum burst kind) {
 }
 
 /* A burst of valid commands of one host delays another's Read by at most 100 ms. A machine that is busy with something else may
- * delay it by more, so one of three tries is enough. */
+ * delay it by more, so one of five tries is enough. */
 void bursts(void) {
     static const char *const names[] = {"deallocations in a chain", "Write Zeroes", "Writes", "Reads"};
     for (enum burst kind = CHAIN; kind < BURSTS; kind++) {
