@@ -13,6 +13,8 @@ import sys
 import tempfile
 import typing
 
+from recording import recorded
+
 TOP = os.path.dirname(os.path.dirname(os.path.realpath(__file__)))
 KIT = os.path.dirname(os.path.dirname(os.path.realpath(shutil.which("rt") or "rt")))
 # What a driver is built with that is timed beside proved code: for the same processor level, as one unit.
@@ -133,7 +135,7 @@ def started(built, *turns):
 
 def main(text, here, crates, build, time=started, turns=None):
     """Runs a benchmark of these crates: `build` proves them, with a folder for what is made, and makes the program; `time`
-    runs that, with the turns if there are any, and returns the status. `text` is what `--help` prints."""
+    runs that, with the turns if there are any, and returns the status. `text` is what `--help` prints. Its rows are kept."""
     said = words(text, turns)
     for number in (signal.SIGHUP, signal.SIGTERM):
         signal.signal(number, lambda *_: sys.exit(1))
@@ -147,7 +149,11 @@ def main(text, here, crates, build, time=started, turns=None):
         sys.exit(f"nothing was built: {os.path.relpath(here, TOP)}/run --build")
     elif is_older(built, here, crates):
         print("sources were changed since this was built", file=sys.stderr)
-    sys.exit(0 if said.build else time(built, *([said.turns] if turns else [])))
+    if said.build:
+        sys.exit(0)
+    with recorded(os.path.basename(here)):
+        status = time(built, *([said.turns] if turns else []))
+    sys.exit(status)
 
 
 def drive(text, driver, crate, *options, turns=None):

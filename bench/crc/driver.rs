@@ -1,6 +1,8 @@
 //! Times the CRC-32C of iw_crc beside the usual ways in plain Rust: a table, slicing-by-8, and the processor's own instruction.
 #[path = "../bit_by_bit.rs"]
 mod bit_by_bit;
+#[path = "../results.rs"]
+mod results;
 
 use std::hint::black_box;
 use std::time::Instant;
@@ -119,5 +121,6 @@ fn main() {
         let speed = |k: usize| times.get(k).map_or("-".into(), |time| format!("{:.2}", times[0] / time));
         let rate = len as f64 / times[0];
         println!("{len:6} {:>6} {rate:4.2} GB/s {:>7} {:>11} {:>13}", speed(0), speed(1), speed(2), speed(3));
+        results::row(&format!("{len} octets"), times[0] / times[2], 1, "times slicing by eight");
     }
 }

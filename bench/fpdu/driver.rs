@@ -3,6 +3,8 @@
 // this thread, in which other work shows little.
 #[path = "../clock.rs"]
 mod clock;
+#[path = "../results.rs"]
+mod results;
 
 use clock::now;
 
@@ -60,14 +62,12 @@ fn main() {
             segment_crc / (copy + sum)
         );
         println!("  reading and checking {:.2} copies; with CRC {:.2} CRCs", check / copy, check_crc / sum);
-        if size == 1_400 && write.max(segment) > 2.5 * copy {
-            println!("  missed: writing without CRC at most 2.5 copies");
-            missed += 1;
+        if size == 1_400 {
+            missed += usize::from(!results::at_most("1400 octets, writing", write / copy, 2, 2.5, "copies"));
+            missed += usize::from(!results::at_most("1400 octets, a segment", segment / copy, 2, 2.5, "copies"));
         }
-        if check_crc > 1.3 * sum {
-            println!("  missed: checking with CRC at most 1.3 CRCs");
-            missed += 1;
-        }
+        let checking = format!("{size} octets, checking with CRC");
+        missed += usize::from(!results::at_most(&checking, check_crc / sum, 2, 1.3, "CRCs"));
     }
     std::process::exit(if missed == 0 { 0 } else { 1 });
 }

@@ -388,7 +388,8 @@ static int tell_speed(const char *what, enum sharing sharing, double lasts) {
     printf("%s: %d rounds, strangers held %.1f MB at most\n", what, rounds, (most - before) / 1e6);
     if (beside.ended > 0) printf("  %llu of %d honest streams ended\n", (unsigned long long)beside.ended, HONEST);
     if (beside.ended < HONEST) printf("  a turn of an honest stream: %.0f ns alone, %.0f beside: %.0f %%\n", costs[0], costs[1], percent);
-    if (is_missed) printf("  MISSED\n");
+    if (sharing != ONE_POOL)
+        printf("= %s | %.2f | >= %.2f | speed alone%s\n", what, percent / 100, LEAST_PERCENT / 100.0, is_missed ? " | missed" : "");
     tell_strangers(&beside);
     tear_down(&alone);
     tear_down(&beside);
@@ -413,7 +414,9 @@ static int tell_shares(void) {
     int is_missed = 100 * costs[1] > MOST_BY_SHARES * costs[0];
     printf("a turn of an honest stream, by turns: %.0f ns with a pool, by shares %.2f of that, with a mark too %.2f\n", costs[0],
         costs[1] / costs[0], costs[2] / costs[0]);
-    if (is_missed) printf("  MISSED\n");
+    printf("= a turn by shares | %.2f | <= %.2f | times with a pool%s\n", costs[1] / costs[0], MOST_BY_SHARES / 100.0,
+        is_missed ? " | missed" : "");
+    printf("= a turn with a mark | %.2f | | times with a pool\n", costs[2] / costs[0]);
     return is_missed;
 }
 

@@ -1,4 +1,7 @@
 // Times frames that are judged before their turn, past a hole, and prints what each costs beside taking its octets in.
+#[path = "../results.rs"]
+mod results;
+
 use std::hint::black_box;
 use std::time::Instant;
 
@@ -106,5 +109,5 @@ fn main() {
     for (name, octets, order) in &lies {
         most = most.max(row(name, octets, *order) / honest);
     }
-    println!("a delivery with lying markers, to one with honest ones: {most:.1} at most");
+    results::row("lying markers, worst", most, 1, "times honest ones");
 }

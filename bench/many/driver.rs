@@ -1,9 +1,11 @@
 //! Serves connections without end at one endpoint, in `crates/bench_many`. It prints what they hold and what each takes, and
-//! ends with status 1 where a limit is missed. With the word `reads` it reads connections that stay, and prints that alone. Memory is counted as the allocator hands it out. Times are the processor's
-//! time of this thread, the least of several runs that go by turns.
+//! ends with status 1 where a limit is missed. Then it reads connections that stay. Memory is counted as the allocator hands it out. Times
+//! are the processor's time of this thread, the least of several runs that go by turns.
 
 #[path = "../clock.rs"]
 mod clock;
+#[path = "../results.rs"]
+mod results;
 #[path = "../stream/heap.rs"]
 mod heap;
 
@@ -94,10 +96,9 @@ struct Wanted {
 }
 
 impl Wanted {
-    fn at_most(&mut self, what: &str, value: f64, most: f64) {
-        let verdict = if value <= most { "reached" } else { "MISSED" };
-        self.missed += usize::from(value > most);
-        println!("{what}: {value:.3}, wanted at most {most}: {verdict}");
+    fn at_most(&mut self, what: &str, value: f64, most: f64, unit: &str) {
+        let places = if most > 100.0 { 0 } else { 3 };
+        self.missed += usize::from(!results::at_most(what, value, places, most, unit));
     }
 }
 
@@ -107,7 +108,8 @@ fn judge_served(connections: u32, alive: u32, wanted: &mut Wanted) {
     let first = most_held(|| serve(ALIVE, alive)) - REGIONS;
     let all = most_held(|| took = time(|| serve(connections, alive))) - REGIONS;
     println!("{connections} connections, {alive} at a time: {:.1} microseconds each, {all} octets held", took / f64::from(connections));
-    wanted.at_most("held at the most, to the same of the first thousand", all as f64 / first as f64, MAX_HELD);
+    let what = format!("{connections} connections, {alive} at a time");
+    wanted.at_most(&what, all as f64 / first as f64, MAX_HELD, "held, to the first 1000");
 }
 
 /// The same connections, at a new endpoint for each 64.
@@ -129,14 +131,12 @@ fn show_read(most: usize) {
     let mut took = 0.0;
     let held = most_held(|| took = time(|| read(READ, most))) - REGIONS;
     let each = (took / f64::from(READ), held as f64 / f64::from(READ));
-    println!("{READ} connections, read by {most}: {:.1} microseconds and {:.0} octets each", each.0, each.1);
+    let most = if most == 0 { 65_536 } else { most };
+    results::row(&format!("a stream read by {most}"), each.0, 1, "us a connection");
+    results::row(&format!("a stream read by {most}"), each.1, 0, "octets");
 }
 
 fn main() {
-    if std::env::args().any(|word| word == "reads") {
-        [0, 512, 4_096, 16_384].into_iter().for_each(show_read);
-        return;
-    }
     let turns = std::env::args().nth(1).and_then(|word| word.parse().ok()).unwrap_or(TURNS);
     let mut wanted = Wanted { missed: 0 };
     judge_served(10_000, ALIVE, &mut wanted);
@@ -145,11 +145,12 @@ fn main() {
     judge_handles();
     let (alone, beside) = (look_up(1, turns), look_up(100_000, turns));
     println!("a look-up alone: {:.2} ns", alone * 1_000.0);
-    wanted.at_most("a look-up beside 100,000 streams, to one alone", beside / alone, MAX_LOOK);
-    wanted.at_most("octets of an endpoint with a domain and no stream", idle(0, false) as f64, MAX_EMPTY);
+    wanted.at_most("a look-up beside 100,000 streams", beside / alone, MAX_LOOK, "times alone");
+    wanted.at_most("an endpoint without streams", idle(0, false) as f64, MAX_EMPTY, "octets");
     let a_stream = |shares| idle(IDLE, shares) as f64 / f64::from(IDLE);
-    wanted.at_most("octets of an idle stream, of 10,000", a_stream(false), MAX_IDLE);
-    println!("octets of one that shares a pool, of 10,000: {:.0}", a_stream(true));
-    wanted.at_most("octets of a stream that has ended, of 10,000", ended(IDLE) as f64 / f64::from(IDLE), MAX_ENDED);
+    wanted.at_most("an idle stream of 10,000", a_stream(false), MAX_IDLE, "octets");
+    results::row("one that shares a pool", a_stream(true), 0, "octets");
+    wanted.at_most("a stream that has ended", ended(IDLE) as f64 / f64::from(IDLE), MAX_ENDED, "octets");
+    [0, 16_384, 4_096, 512].into_iter().for_each(show_read);
     std::process::exit((wanted.missed > 0).into());
 }

@@ -2,6 +2,8 @@
 // It reads the processor's time of this thread, in which other work on the machine shows little.
 #[path = "../clock.rs"]
 mod clock;
+#[path = "../results.rs"]
+mod results;
 
 use clock::now;
 
@@ -35,10 +37,10 @@ fn main() {
         }
     }
     let writes = least.map(|[without, with]| (with - without) / ROUNDS as f64);
+    let mut within = true;
     for (each, others) in writes.iter().zip(OTHERS) {
-        println!("{others} others: {each:.1} ns a write, ratio {:.2}", each / writes[0]);
+        println!("{others} others: {each:.1} ns a write");
+        within &= others == 1 || results::at_most(&format!("{others} other regions"), each / writes[0], 2, MOST, "times one other");
     }
-    let ratio = writes[OTHERS.len() - 1] / writes[0];
-    println!("ratio of the last to the first {ratio:.2}, under {MOST}");
-    std::process::exit(if ratio < MOST { 0 } else { 1 });
+    std::process::exit(if within { 0 } else { 1 });
 }

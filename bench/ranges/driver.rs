@@ -1,4 +1,7 @@
 // Times what `lib` does against copying the same segments one by one, and prints the ratios and what they may be at most.
+#[path = "../results.rs"]
+mod results;
+
 use std::hint::black_box;
 use std::time::Instant;
 
@@ -53,8 +56,8 @@ fn main() {
     let mut within = true;
     for (i, most) in [(1, 3.5), (2, 5.0), (3, 6.0)] {
         let ratio = times[i] / times[0];
-        println!("{}: {:.0} ns a segment, ratio {ratio:.2}, at most {most}", contenders[i].0, times[i] / segments);
-        within &= ratio <= most;
+        println!("{}: {:.0} ns a segment", contenders[i].0, times[i] / segments);
+        within &= results::at_most(contenders[i].0, ratio, 2, most, "copies");
     }
 
     let few = 150_000;
@@ -64,11 +67,7 @@ fn main() {
     ];
     let times = least(&mut contenders);
     let ratio = times[1] / times[0];
-    println!(
-        "one octet: {:.1} ns, with 1,000 islands further on {:.1} ns, ratio {ratio:.2}, at most 3",
-        times[0] / few as f64,
-        times[1] / few as f64
-    );
-    within &= ratio <= 3.0;
+    println!("one octet: {:.1} ns, with 1,000 islands further on {:.1} ns", times[0] / few as f64, times[1] / few as f64);
+    within &= results::at_most("an octet at a time, 1,000 islands", ratio, 2, 3.0, "times without islands");
     std::process::exit(if within { 0 } else { 1 });
 }

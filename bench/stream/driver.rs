@@ -9,6 +9,8 @@
 mod bit_by_bit;
 #[path = "../clock.rs"]
 mod clock;
+#[path = "../results.rs"]
+mod results;
 mod copies;
 mod heap;
 mod held;
@@ -51,18 +53,13 @@ struct Wanted {
 }
 
 impl Wanted {
-    fn at_least(&mut self, what: &str, value: f64, least: f64) {
-        self.say(what, value, "at least", least, value >= least);
+    fn at_least(&mut self, what: &str, value: f64, least: f64, unit: &str) {
+        self.missed += usize::from(!results::at_least(what, value, 2, least, unit));
     }
 
-    fn at_most(&mut self, what: &str, value: f64, most: f64) {
-        self.say(what, value, "at most", most, value <= most);
-    }
-
-    fn say(&mut self, what: &str, value: f64, bound: &str, limit: f64, met: bool) {
-        let verdict = if met { "reached" } else { "MISSED" };
-        self.missed += usize::from(!met);
-        println!("{what}: {value:.2}, wanted {bound} {limit}: {verdict}");
+    fn at_most(&mut self, what: &str, value: f64, most: f64, unit: &str) {
+        let places = if most > 100.0 { 0 } else { 2 };
+        self.missed += usize::from(!results::at_most(what, value, places, most, unit));
     }
 }
 
@@ -92,6 +89,10 @@ fn print_held(held: &[Held]) {
     }
 }
 
+/// The units of rows: the peer's time to ours, and that of the copies that are needed, with a CRC where there is one.
+const PEER: &str = "peer";
+const COPIES: &str = "copies";
+
 /// How much more an octet takes in the second of these rows.
 fn growth(rows: &[Row], fewer: &str, more: &str) -> f64 {
     row(rows, more).an_octet() / row(rows, fewer).an_octet()
@@ -99,31 +100,36 @@ fn growth(rows: &[Row], fewer: &str, more: &str) -> f64 {
 
 fn judge_rows(rows: &[Row], wanted: &mut Wanted) {
     let (plain, framed) = (row(rows, "plain"), row(rows, "markers and CRCs"));
-    wanted.at_least("peer's time to ours, plain", plain.to_peer(), 0.8);
-    wanted.at_least("peer's time to ours, markers and CRCs", framed.to_peer(), 0.95);
-    for name in ["receiving side, plain", "receiving side, markers", "receiving side, markers and CRCs"] {
-        wanted.at_least(&format!("peer's time to ours, {name}"), row(rows, name).to_peer(), 0.85);
-    }
+    results::row("plain", plain.a_frame(), 0, "ns a frame");
     for (name, least) in [
+        ("plain", 0.8),
+        ("markers and CRCs", 0.95),
+        ("receiving side, plain", 0.85),
+        ("receiving side, markers", 0.85),
+        ("receiving side, markers and CRCs", 0.85),
         ("reads, ULPDU 1,400, plain", 1.15),
         ("reads, ULPDU 1,400, markers and CRCs", 1.0),
         ("reads, ULPDU 64,512, plain", 1.3),
         ("reads, ULPDU 64,512, markers and CRCs", 1.0),
     ] {
-        wanted.at_least(&format!("peer's time to ours, {name}"), row(rows, name).to_peer(), least);
+        wanted.at_least(name, row(rows, name).to_peer(), least, PEER);
     }
-    wanted.at_least("two copies' time to ours, receiving side, plain", row(rows, "receiving side, plain").to_copies(), 0.42);
+    for name in ["Sends, plain", "deliveries of 100 octets, plain", "deliveries of 100 octets, markers and CRCs", "64 streams by turns, plain"] {
+        results::at_least(name, row(rows, name).to_peer(), 2, 0.8, PEER);
+    }
+    wanted.at_least("receiving side, plain", row(rows, "receiving side, plain").to_copies(), 0.42, COPIES);
     for (name, without) in [
         ("start-up frames, plain", "plain"),
         ("start-up frames, markers", "markers"),
         ("start-up frames, markers and CRCs", "markers and CRCs"),
     ] {
-        wanted.at_most(&format!("{name}, to the same without"), growth(rows, without, name), 1.03);
+        wanted.at_most(name, growth(rows, without, name), 1.03, "times without");
     }
-    wanted.at_least("two copies' time to ours, plain", plain.to_cache(), 0.25);
-    wanted.at_least("two copies' and CRCs' time to ours, markers and CRCs", framed.to_cache(), 0.72);
-    wanted.at_least("three copies' time to the peer's, plain", plain.peer_to_copies(), 0.55);
-    wanted.at_least("three copies' and two CRCs' time to the peer's, markers and CRCs", framed.peer_to_copies(), 0.75);
+    wanted.at_least("plain", plain.to_cache(), 0.25, "copies in cache");
+    wanted.at_least("markers and CRCs", framed.to_cache(), 0.72, "copies in cache");
+    for (name, row, least) in [("plain", plain, 0.55), ("markers and CRCs", framed, 0.75)] {
+        wanted.at_least(name, row.peer_to_copies(), least, "copies to the peer's");
+    }
 }
 
 /// The receiving side alone, with markers and CRCs: in order, and in the orders in which frames are placed before their turn.
@@ -138,7 +144,7 @@ fn judge_received(rows: &[Row], early: &[Row], wanted: &mut Wanted) {
     }
     println!();
     for (row, name, least) in all() {
-        wanted.at_least(&format!("two copies' and a CRC's time to ours, receiving side, {name}"), row.to_copies(), least);
+        wanted.at_least(&format!("received {name}"), row.to_copies(), least, COPIES);
     }
 }
 
@@ -161,7 +167,7 @@ fn judge_limits(rows: &[Row], limits: &[Row], wanted: &mut Wanted) {
         let peer = more.peer_an_octet() / fewer.peer_an_octet();
         println!("growth of the peer's time of an octet, {name}: {peer:.2}");
         let ours = more.an_octet() / fewer.an_octet();
-        wanted.at_most(&format!("growth of the time of an octet, {name}"), ours, MAX_GROWTH_APART);
+        wanted.at_most(name, ours, MAX_GROWTH_APART, "growth");
     }
     let fewest = row(rows, "plain").an_octet();
     let longest = row(limits, "Writes of 16 MiB, plain").an_octet();
@@ -195,7 +201,7 @@ fn judge_growth(turns: usize, wanted: &mut Wanted) {
         ("markers and CRCs, pairs swapped", swapped(Load::FRAMED)),
     ] {
         let growth = time_growth(name, load, turns);
-        wanted.at_most(&format!("growth from 16 MiB to 64 MiB, {name}"), growth, MAX_GROWTH);
+        wanted.at_most(&format!("16 MiB to 64 MiB, {name}"), growth, MAX_GROWTH, "growth");
     }
 }
 
@@ -209,9 +215,9 @@ fn judge_reads(turns: usize, wanted: &mut Wanted) {
             writes.turn_ours();
             reads.turn_ours();
         }
-        wanted.at_least(&format!("Writes' time to Reads', {name}"), writes.an_octet() / reads.an_octet(), 0.8);
+        wanted.at_least(&format!("Writes' time to Reads', {name}"), writes.an_octet() / reads.an_octet(), 0.8, "ratio");
         let growth = time_growth(name, reading, turns);
-        wanted.at_most(&format!("growth from 16 MiB to 64 MiB, Reads, {name}"), growth, MAX_GROWTH);
+        wanted.at_most(&format!("16 MiB to 64 MiB, Reads, {name}"), growth, MAX_GROWTH, "growth");
     }
 }
 
@@ -227,7 +233,7 @@ fn judge_pool(turns: usize, wanted: &mut Wanted) {
         pooled.turn_ours();
     }
     let ratio = pooled.an_octet() / own.an_octet();
-    wanted.at_most("Sends of 1 KiB to 64 streams, from a pool of 1,024 buffers to queues of their own", ratio, MAX_POOLED);
+    wanted.at_most("a Send to 64 streams of a pool", ratio, MAX_POOLED, "times own queues");
 }
 
 /// Frames that are placed before their turn, beside the same in order, with markers and CRCs.
@@ -251,7 +257,7 @@ fn judge_early(turns: usize, wanted: &mut Wanted) {
     println!();
     for (in_order, early) in &rows {
         let ratio = early.an_octet() / in_order.an_octet();
-        wanted.at_most(&format!("{}, to in order", early.name), ratio, MAX_EARLY);
+        wanted.at_most(&format!("early, {}", early.name), ratio, MAX_EARLY, "times in order");
     }
 }
 
@@ -281,7 +287,7 @@ fn judge_lying(turns: usize, wanted: &mut Wanted) {
     let ratios = rows::lying().map(ratio);
     println!();
     for (name, ratio) in ratios {
-        wanted.at_most(&format!("{name}, to honest ones"), ratio, MAX_LYING);
+        wanted.at_most(name, ratio, MAX_LYING, "times honest ones");
     }
 }
 
@@ -307,7 +313,7 @@ fn judge_crc(turns: usize, wanted: &mut Wanted) {
     for len in [128, 508, 8_900, 64_512] {
         println!("CRC of {len} octets, our time to the peer's: {:.2}", crc_to_peer(turns, len));
     }
-    wanted.at_least("CRC of 1,400 octets, our time to the peer's", crc_to_peer(turns, 1_400), 0.9);
+    wanted.at_least("CRC of 1,400 octets", crc_to_peer(turns, 1_400), 0.9, "times the peer's");
 }
 
 fn judge_all(turns: usize, wanted: &mut Wanted) {
@@ -332,7 +338,7 @@ fn judge_all(turns: usize, wanted: &mut Wanted) {
     judge_rows(&rows, wanted);
     judge_received(&rows, &early, wanted);
     for held in &idle {
-        wanted.at_most(&format!("octets of {}", held.name), held.ours.round(), MAX_IDLE);
+        wanted.at_most(held.name, held.ours.round(), MAX_IDLE, "octets");
     }
     judge_limits(&rows, &limits, wanted);
     judge_growth(turns / 10 + 1, wanted);

@@ -1,5 +1,8 @@
 //! Times the reading of schedules and the printing of traces: of each text, and of its first half. It ends with status 1 if
 //! a whole text takes more than `MOST` of its half.
+#[path = "../results.rs"]
+mod results;
+
 use std::time::Instant;
 
 unsafe extern "C" {
@@ -34,9 +37,8 @@ fn schedule(line: &str, lines: usize) -> String {
 fn compare(title: &str, octets: usize, half: f64, whole: f64) -> bool {
     let speed = octets as f64 / whole / 1e3;
     let ratio = whole / half;
-    let verdict = if ratio > MOST { ": MISSED" } else { "" };
-    println!("{title:34} {half:9.2} ms {whole:9.2} ms  ratio {ratio:.2}  {speed:7.0} MB/s{verdict}");
-    ratio <= MOST
+    println!("{title:34} {half:9.2} ms {whole:9.2} ms  {speed:7.0} MB/s");
+    results::at_most(title, ratio, 2, MOST, "times the half")
 }
 
 fn read(title: &str, line: &str, lines: usize) -> bool {
