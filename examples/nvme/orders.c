@@ -84,7 +84,7 @@ void is_stale(void) {
 /* ---- bursts */
 
 enum burst { CHAIN, ZEROES, WRITES, READS, BURSTS };
-enum { BURST_QUEUES = 7, MOST_DELAY = 100, TRIES = 5, MOST_BURST = 20000 };
+enum { BURST_QUEUES = 7, MOST_DELAY = 100, TRIES = 8, MOST_BURST = 20000 };
 
 /* Deallocates 256 ranges that lie between those of all other commands, but for the last: each command's touches the next one's. */
 static void put_chain(struct host_queue *queue, uint16_t slot, uint32_t number, uint32_t all) {
@@ -129,34 +129,41 @@ static void burst(enum burst kind) {
     host_end(&host);
 }
 
-/* How long another host's Read takes at most while the burst goes on, in ms; or -1, if the burst fails. */
-static int delay_by(enum burst kind) {
+/* How long a Read takes, in ms. */
+static int read_once(struct host *host) {
     static uint8_t in[SHORT];
+    uint64_t begun = clock_ms();
+    int is_read = read_blocks(host->queues[1], random_number(1000), in, SHORT, SGL_KEYED) == 0;
+    int took = (int)(clock_ms() - begun);
+    usleep(1000);
+    return is_read ? took : MOST_BURST;
+}
+
+/* By how much another host's Read takes longer at most while the burst goes on than before, in ms; or -1, if the burst fails. */
+static int delay_by(enum burst kind) {
+    enum { BEFORE = 300 };
     struct host host = new_host();
     CHECK(host_begin(&host, 1, HOST_DEPTH));
-    int worst = 0, status = 0;
+    int calm = 0, worst = 0, status = 0;
+    for (int i = 0, took; i < BEFORE; i++, calm = took > calm ? took : calm) took = read_once(&host);
     pid_t child = fork();
     CHECK(child >= 0);
     if (child == 0) {
         burst(kind);
         _exit(0);
     }
-    while (waitpid(child, &status, WNOHANG) == 0) {
-        uint64_t begun = clock_ms();
-        int is_read = read_blocks(host.queues[1], random_number(1000), in, SHORT, SGL_KEYED) == 0;
-        int took = (int)(clock_ms() - begun);
+    while (worst < MOST_BURST && waitpid(child, &status, WNOHANG) == 0) {
+        int took = read_once(&host);
         if (took > worst) worst = took;
-        if (!is_read) worst = MOST_BURST;
-        if (!is_read) break;
-        usleep(1000);
     }
-    if (worst == MOST_BURST) kill(child, SIGKILL), waitpid(child, &status, 0);
+    if (worst >= MOST_BURST) kill(child, SIGKILL), waitpid(child, &status, 0);
     host_end(&host);
-    return WIFEXITED(status) && WEXITSTATUS(status) == 0 ? worst : -1;
+    if (!WIFEXITED(status) || WEXITSTATUS(status) != 0) return -1;
+    return worst > calm ? worst - calm : 0;
 }
 
 /* A burst of valid commands of one host delays another's Read by at most 100 ms. A machine that is busy with something else may
- * delay it by more, so one of five tries is enough. */
+ * delay it by more, so one of eight tries is enough. */
 void bursts(void) {
     static const char *const names[] = {"deallocations in a chain", "Write Zeroes", "Writes", "Reads"};
     for (enum burst kind = CHAIN; kind < BURSTS; kind++) {
