@@ -25,7 +25,7 @@ static void tell(struct controller *controller, uint8_t warnings, uint32_t what)
 }
 
 void events_tell(struct controller *controller) {
-    if (controller->event_count == 0) return;
+    if (controller->event_count == 0 || controller->discovery) return;
     const struct target *target = controller->admin->target;
     uint32_t due = health_warnings(target, controller) & controller->event_mask & ~(uint32_t)controller->told;
     if (due & (WARNS_RELIABILITY | WARNS_READ_ONLY))
