@@ -2,7 +2,7 @@
  * cut, and each is there in its order or is counted. Prints `ok`, or the first answer that is wrong at standard error, with status 1. */
 #include "lines.h"
 
-enum { LINES = 20000, MOST_TEXT = 1 << 21 };
+enum { LINES = 600, OCTETS = 1500, LENGTH = 2 * OCTETS, MOST_TEXT = 1 << 21 };
 
 #define CHECK(answer)                                                                 \
     do {                                                                              \
@@ -12,6 +12,7 @@ enum { LINES = 20000, MOST_TEXT = 1 << 21 };
         }                                                                             \
     } while (0)
 
+static const uint8_t octets[OCTETS];
 static char text[MOST_TEXT];
 
 /* Standard output is this from then on, as a program finds it when it begins. */
@@ -34,7 +35,7 @@ static void end_at(void) {
 static void make_lines(int from, int to) {
     for (int i = from; i < to; i++) {
         add_text("line %d ", i);
-        add_octets((const uint8_t *)"0123456789012345678901234567890123456789", 40);
+        add_octets(octets, OCTETS);
         end_line();
         if (i % 10 == 0) put_lines();
     }
@@ -56,13 +57,14 @@ static size_t read_all(int fd) {
     return n;
 }
 
-/* Checks the next lines, which are numbered from `from` on. Returns the number of the first that is none. */
+/* Checks the next whole lines, which are numbered from `from` on. Returns the number of the first that is none. */
 static int numbered(char **at, int from) {
     for (;; from++) {
         char wanted[40];
-        int n = snprintf(wanted, sizeof wanted, "line %d 3031", from);
-        if (strncmp(*at, wanted, (size_t)n) != 0) return from;
-        *at = strchr(*at, '\n') + 1;
+        int n = snprintf(wanted, sizeof wanted, "line %d 0000", from);
+        char *end = strchr(*at, '\n');
+        if (!end || strncmp(*at, wanted, (size_t)n) != 0 || end - *at != n - 4 + LENGTH) return from;
+        *at = end + 1;
     }
 }
 
@@ -75,12 +77,37 @@ static void nobody_reads(int waits) {
     make_lines(0, LINES);
     read_all(fds[0]);
     int kept = numbered(&at, 0);
-    CHECK(kept > MOST_WAITING / 100 && strtol(at, &rest, 10) == LINES - kept);
+    CHECK(kept > MOST_WAITING / LENGTH - 2 && strtol(at, &rest, 10) == LINES - kept);
     CHECK(strncmp(rest, " lines are left out here: ", 26) == 0);
     make_lines(0, 20);
     read_all(fds[0]);
     at = text;
     CHECK(numbered(&at, 0) == 20 && *at == 0);
+    end_at();
+    close(fds[0]);
+    close(fds[1]);
+}
+
+/* A reader that lags behind gets all, as long as what waits is not too much. */
+static void reader_lags(int waits) {
+    enum { AHEAD = 60, TIMES = 500 };
+    int fds[2], from = 0;
+    char *at = text;
+    CHECK(pipe(fds) == 0);
+    begin_at(fds[1], waits);
+    make_lines(0, AHEAD);
+    for (int i = 0; i < TIMES; i++) {
+        make_lines(AHEAD + i, AHEAD + i + 1);
+        put_lines();
+        char *next = text;
+        ssize_t n = read(fds[0], at, LENGTH - 100); /* less than a line */
+        CHECK(n > 0);
+        at[n] = 0;
+        from = numbered(&next, from);
+        CHECK(!strchr(next, '\n') && output.dropped == 0);
+        at = text + strlen(memmove(text, next, strlen(next) + 1));
+    }
+    CHECK(from > TIMES / 10 * 9);
     end_at();
     close(fds[0]);
     close(fds[1]);
@@ -134,6 +161,7 @@ int main(void) {
     int out = dup(1);
     for (int waits = 0; waits < 2; waits++) {
         nobody_reads(waits);
+        reader_lags(waits);
         reader_goes(waits);
     }
     disk_is_full();

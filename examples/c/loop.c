@@ -361,7 +361,8 @@ static void finish_both(void) {
     for (int i = 0; i < 2; i++) finish(&ends[i]);
 }
 
-/* No turn does more steps than it may, whichever call it is, and all frames have their turn. */
+/* No turn does more steps than it may, whichever call it is, or reads before those that are left are done; and all frames have their
+ * turn. */
 static void bounds_a_turn(void) {
     enum { WRITES = 200, STEPS = 8, FRAME = 20 };
     struct end *to = &ends[1];
@@ -369,12 +370,13 @@ static void bounds_a_turn(void) {
     int turns = 0;
     sends_writes(WRITES, 0, STEPS);
     uint64_t begun = passed(to);
+    unsigned long reads_before = reads;
     while (turn == TURN_MORE) {
         uint64_t before = passed(to);
         turn = turns++ % 2 ? is_writable(&to->carried) : is_readable(&to->carried);
         CHECK(passed(to) - before <= STEPS * FRAME && turns < MOST_PASSES);
     }
-    CHECK(turn == TURN_DONE && passed(to) - begun == WRITES * FRAME && turns >= WRITES / STEPS);
+    CHECK(turn == TURN_DONE && passed(to) - begun == WRITES * FRAME && turns >= WRITES / STEPS && reads == reads_before + 1);
     to->carried.share = 1; /* then no call counts steps, and a turn reads less */
     CHECK(is_readable(&to->carried) == TURN_DONE && asked_for == SHARED_READ);
     finish_both();
