@@ -5,12 +5,12 @@
 
 #include "sockets.h"
 
-/* How many octets are read at a time: so many at first, and four times as many after each read that filled what was asked for, up
- * to MOST_READ, which is 65,536 at most. An idle stream keeps memory for as many as it asked for. */
+/* How many octets are read at a time: FIRST_READ, and four times as many after each read that filled what was asked for, up to
+ * MOST_READ, which is 65,536 at most. An idle stream keeps memory for as many as it asked for. SHARED_READ is a dozen small frames. */
 #ifndef MOST_READ
 #define MOST_READ 65536
 #endif
-enum { FIRST_READ = MOST_READ < 4096 ? MOST_READ : 4096, SHARED_READ = 256 /* a dozen frames */ };
+enum { FIRST_READ = MOST_READ < 4096 ? MOST_READ : 4096, SHARED_READ = 256 };
 
 /* A stream, and the socket that carries it. */
 struct carried {
@@ -114,7 +114,8 @@ static enum turn write_some(struct carried *carried) {
     return code != IWARP_OK ? refused(code) : taken < (ssize_t)n ? TURN_LEFT : TURN_DONE;
 }
 
-/* Call it when the socket is writable and there may be something to write: after is_readable, after postings, after TURN_LEFT. */
+/* Call it when the socket is writable and there may be something to write: after is_readable, after postings, after TURN_LEFT and
+ * TURN_MORE. */
 static enum turn is_writable(struct carried *carried) {
     uint32_t wants;
     enum turn turn = write_some(carried);
