@@ -19,10 +19,10 @@ fn zeroes(alloc: Global, n: usize) -> Result<Box<Contents>, AllocError>
 }
 
 impl Buffer {
-    /// Makes a buffer of `n` zero octets. `AlreadyMade`: there is one, which was not freed; otherwise an `Err` is want of
+    /// Makes a buffer of `n` zero octets. `BufferExists`: there is one, which was not freed; otherwise an `Err` is want of
     /// memory. An `Err` changes nothing.
     pub fn make(&mut self, alloc: Global, n: usize) -> Result<(), BufferRefusal>
-        ensures refused { IfSome self.old.state (λ _. result ≡ Err BufferRefusal.AlreadyMade) }
+        ensures refused { IfSome self.old.state (λ _. result ≡ Err BufferRefusal.BufferExists) }
         ensures memory { self.old.state ≡ None → IfErr result (λ e. e ≡ BufferRefusal.NoMemory) }
         ensures ok { OnOk result (self.new.state ≡ Some (zeroes n)) }
         ensures room { OnOk result (n ≤ self.new.room) }
@@ -30,7 +30,7 @@ impl Buffer {
     {
         if let Some(contents) = self.take(alloc) {
             self.put(contents);
-            return Err(BufferRefusal::AlreadyMade);
+            return Err(BufferRefusal::BufferExists);
         }
         match zeroes(alloc, n) {
             Ok(contents) => {
@@ -63,7 +63,7 @@ impl Buffer {
         ensures room { OnOk result (self.new.room ≡ self.old.room) }
     {
         let Some(mut contents) = self.take(alloc) else {
-            return Err(BufferRefusal::NoBuffer);
+            return Err(BufferRefusal::BufferMissing);
         };
         *at = contents.address();
         *len = contents.len();
@@ -79,7 +79,7 @@ impl Buffer {
         ensures room { OnOk result (self.old.room ≤ self.new.room) }
     {
         let Some(mut contents) = self.take(alloc) else {
-            return Err(BufferRefusal::NoBuffer);
+            return Err(BufferRefusal::BufferMissing);
         };
         contents.truncate(alloc, n);
         self.put(contents);
@@ -94,7 +94,7 @@ impl Buffer {
         ensures room { OnOk result (self.old.room ≤ self.new.room) }
     {
         let Some(mut contents) = self.take(alloc) else {
-            return Err(BufferRefusal::NoBuffer);
+            return Err(BufferRefusal::BufferMissing);
         };
         contents.drop_front(alloc, n);
         self.put(contents);

@@ -1,4 +1,4 @@
-// Buffers that C keeps, and octets that change hands with no copy.
+//! Buffers that C keeps, and octets that change hands with no copy.
 ghost use Rattle.std.specs.Prelude.{◌≡◌, ◌≢◌, ◌⊎◌, ◌++◌, ◌≤◌, pos, None, Some, [], length, take, drop, IfSome, IfNone};
 ghost use Rattle.std.specs.Option.{option_map};
 ghost use Rattle.std.specs.Result.{result_err};
@@ -10,7 +10,7 @@ ghost use Rattle.iw_endpoint.specs.Endpoint.{emission_at, emitted_at, after_emit
 ghost use Rattle.iw_handle.specs.Events.{emitted_of, IsFrame};
 ghost use Rattle.iw_handle.specs.Filling.{FillsAt, TakesMemoryForReadsAt};
 ghost use Rattle.iw_handle.specs.Refusals.{buffer_reason, code_of, refusal_code};
-ghost use Rattle.iw_handle.specs.Keeping.{refusal_to_move};
+ghost use Rattle.iw_handle.specs.KeptRegions.{refusal_to_move};
 ghost use Rattle.iw_handle.specs.Regions.{refusal_to_register};
 ghost use Rattle.iw_handle.specs.State.{called_on, refusal_with, changed, told_in, shown_in};
 ghost use Rattle.iw_handle.specs.Streams.{refusal_to_go_on};

@@ -1,4 +1,4 @@
-// Octets that the program reads to a place that is lent.
+//! Octets that the program reads to a place that is lent.
 ghost use Rattle.std.specs.Prelude.{◌≡◌, ◌≢◌, ◌⊎◌, ◌<◌, pos, Some, IfSome, IfNone, IsSomeAnd};
 ghost use Rattle.iw_handle.specs.Lending.{lendable_at, IsFull, IsUnlent, lent_at, lent_in, HasTaken};
 ghost use Rattle.iw_handle.specs.Refusals.{refusal_code};

@@ -6,10 +6,8 @@
 #![tactic(auto)]
 
 mod buffers;
-mod described;
-mod keeping;
+mod kept_regions;
 mod lending;
-mod limiting;
 mod octets;
 mod pools;
 mod posting;
@@ -18,9 +16,11 @@ mod regions;
 mod registering;
 mod sending;
 mod sharing;
-mod sized;
 mod stream_opening;
+mod stream_regions;
 mod streams;
+mod struct_posting;
+mod structs;
 mod texts;
 
 ghost use Rattle.std.specs.Prelude.{◌≡◌, ◌≢◌, ◌⊎◌, pos, None, IfSome, IfNone};
@@ -35,11 +35,9 @@ pub use buffers::{
     iwarp_buffer_at, iwarp_buffer_free, iwarp_buffer_new, iwarp_buffer_truncate,
     iwarp_deregister_buffer, iwarp_emit_onto, iwarp_register_buffer,
 };
-pub use described::{iwarp_post, iwarp_post_buffer};
 use iw_handle::{Handle, code, domain_number};
-pub use keeping::{iwarp_deregister_memory, iwarp_register_memory};
+pub use kept_regions::{iwarp_deregister_memory, iwarp_register_memory};
 pub use lending::{iwarp_came, iwarp_room};
-pub use limiting::{iwarp_register_buffer_for, iwarp_register_for};
 pub use octets::{
     iwarp_deliver, iwarp_emit, iwarp_fetch, iwarp_first_number, iwarp_progress, iwarp_wants_write,
     iwarp_work, iwarp_work_on,
@@ -56,13 +54,15 @@ pub use regions::{
 pub use registering::{iwarp_register_as, iwarp_register_buffer_as};
 pub use sending::{iwarp_fetch_sent, iwarp_post_send_buffer, iwarp_post_write_buffer};
 pub use sharing::{iwarp_work_marked, iwarp_work_within};
-pub use sized::{iwarp_new_with, iwarp_peer_facts, iwarp_region_facts};
 use std::alloc::Global;
 pub use stream_opening::{iwarp_close, iwarp_open_next, iwarp_open_shared_next};
+pub use stream_regions::{iwarp_register_buffer_for, iwarp_register_for};
 pub use streams::{
     iwarp_accept, iwarp_break, iwarp_open, iwarp_private, iwarp_reject, iwarp_set_mulpdu,
     iwarp_state, iwarp_told,
 };
+pub use struct_posting::{iwarp_post, iwarp_post_buffer};
+pub use structs::{iwarp_new_with, iwarp_peer_facts, iwarp_region_facts};
 pub use texts::{iwarp_fault_text_at, iwarp_text_at};
 
 /// The version of this library: 10,000 for each major number, 100 for each minor one, 1 for each revision.

@@ -1,4 +1,4 @@
-// Delivery, work and emission.
+//! Delivery, work and emission.
 ghost use Rattle.std.specs.Prelude.{◌≡◌, ◌≢◌, ◌⊎◌, pos, None, Some, length, IfSome, IfNone, IsSomeAnd};
 ghost use Rattle.std.specs.Option.{option_map};
 ghost use Rattle.iw_endpoint.specs.Endpoint.{with_first, delivery_at, emission_at, after_emit};

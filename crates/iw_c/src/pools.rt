@@ -1,4 +1,4 @@
-// Pools of receive buffers that streams of a domain share.
+//! Pools of receive buffers that streams of a domain share.
 ghost use Rattle.std.specs.Prelude.{◌≡◌, ◌≢◌, ◌⊎◌, pos, IfSome, IfNone};
 ghost use Rattle.iw_endpoint.specs.Endpoint.{shared, pooled, opened_shared};
 ghost use Rattle.iw_handle.specs.Openings.{opened_in};

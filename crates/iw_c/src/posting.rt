@@ -1,4 +1,4 @@
-// Posting to a stream.
+//! Posting to a stream: Sends and Writes of copied octets, Reads, and receive buffers.
 ghost use Rattle.std.specs.Prelude.{◌≡◌, ◌≢◌, ◌⊎◌, pos, IfSome, IfNone};
 ghost use Rattle.iw_octets.specs.Stag.{stag_of};
 ghost use Rattle.iw_endpoint.specs.Endpoint.{with_buffer};

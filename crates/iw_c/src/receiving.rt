@@ -1,4 +1,4 @@
-// Receive buffers that change hands with no copy.
+//! Receive buffers that change hands with no copy.
 ghost use Rattle.std.specs.Prelude.{◌≡◌, ◌≢◌, ◌⊎◌, pos, Some, [], length, is_some, unwrap_or, IfSome, IfNone};
 ghost use Rattle.std.specs.Option.{option_map};
 ghost use Rattle.iw_endpoint.specs.Endpoint.{with_buffer, pooled, taken_at, after_take};

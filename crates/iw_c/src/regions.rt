@@ -1,4 +1,4 @@
-// Calls on regions.
+//! Calls on regions: register, deregister, store, load, and their facts.
 ghost use Rattle.std.specs.Prelude.{◌≡◌, ◌≢◌, ◌⊎◌, pos, None, Some, length, IfSome, IfNone};
 ghost use Rattle.std.specs.Option.{option_map};
 ghost use Rattle.iw_octets.specs.Stag.{number_of, stag_of};

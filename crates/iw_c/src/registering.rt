@@ -1,4 +1,4 @@
-// Registering a region that a struct describes.
+//! Registering a region that a struct describes.
 ghost use Rattle.std.specs.Prelude.{◌≡◌, ◌≢◌, ◌⊎◌, pos, Some, [], length, IfSome, IfNone};
 ghost use Rattle.iw_octets.specs.Stag.{number_of};
 ghost use Rattle.iw_handle.specs.Refusals.{refusal_code};

@@ -1,4 +1,4 @@
-// Messages that are posted from a buffer, with no copy.
+//! Messages that are posted from a buffer, with no copy.
 ghost use Rattle.std.specs.Prelude.{◌≡◌, ◌≢◌, ◌⊎◌, pos, None, Some, [], IfSome, IfNone};
 ghost use Rattle.iw_octets.specs.Stag.{stag_of};
 ghost use Rattle.iw_handle.specs.Refusals.{refusal_code};

@@ -1,4 +1,4 @@
-// Work with a share of the domain's pool, and with a high-water mark.
+//! Work with a share of the domain's pool, and with a high-water mark.
 ghost use Rattle.std.specs.Prelude.{◌≡◌, ◌≢◌, pos, None, IfSome, IfNone, IsSomeAnd};
 ghost use Rattle.iw_handle.specs.Limits.{limits_refusal, share_of, mark_of};
 ghost use Rattle.iw_handle.specs.Marking.{TellsOnMarked};

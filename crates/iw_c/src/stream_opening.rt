@@ -1,4 +1,4 @@
-// Streams whose numbers the endpoint gives, and streams that are closed.
+//! Streams whose numbers the endpoint gives, and streams that are closed.
 ghost use Rattle.std.specs.Prelude.{◌≡◌, ◌≢◌, ◌⊎◌, pos, Some, IfSome, IfNone};
 ghost use Rattle.iw_endpoint.specs.Endpoint.{next_number, opened_next, opened_shared_next};
 ghost use Rattle.iw_handle.specs.Openings.{refusal_to_open_next, refusal_to_open_shared_next, refusal_to_close};

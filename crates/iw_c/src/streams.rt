@@ -1,4 +1,4 @@
-// Calls that open a stream, answer its Request and end it.
+//! Calls that open a stream, answer its Request and end it.
 ghost use Rattle.std.specs.Prelude.{◌≡◌, ◌≢◌, ◌⊎◌, pos, Some, length, IfSome, IfNone};
 ghost use Rattle.iw_endpoint.specs.Endpoint.{opened, accepted, rejected, agreement, broken, with_mulpdu, told_at, options_at, standing_at};
 ghost use Rattle.iw_handle.specs.Events.{agreed_flags, peer_told, state_number};

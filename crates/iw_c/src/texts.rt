@@ -1,5 +1,5 @@
-// Words for codes and faults. No clause says which address it is that C is told; what stands there ends with an octet 0
-// (`iw_codes::text_of`, `iw_codes::fault_text`).
+//! Words for codes and faults. No clause says which address it is that C is told; what stands there ends with an octet 0
+//! (`iw_codes::text_of`, `iw_codes::fault_text`).
 use iw_codes::{fault_text, text_of};
 use std::ptr::{NonNull, null_mut};
 

@@ -15,7 +15,7 @@ use Rattle.iw_stream.specs.Work.{work_step, table_worked}
 use Rattle.iw_endpoint.specs.declared.refusal.CallRefusal.TheVariants.{Refused}
 use Rattle.iw_endpoint.specs.declared.refusal.LimitRefusal.TheVariants as limits
 use Rattle.iw_endpoint.specs.Endpoint.{EndpointState, Pool, pool_of, lent_to, left_of, pool_left, with_worked, with_stream, with_table, accepted, rejected, with_request, with_buffer, with_first, with_mulpdu, after_deliver, broken, stream_of, stream_at, unopened, answer_at, refusal_at, rest_refusal, running_refusal, limit_refusal, rewritten, answer_refusal, post_refusal, recv_refusal, first_refusal, size_refusal}
-use Rattle.iw_endpoint.specs.Keeping.{region_in}
+use Rattle.iw_endpoint.specs.KeptRegions.{region_in}
 use Rattle.iw_endpoint.specs.Sharing.{emptied, with_worked_alone}
 use Rattle.iw_endpoint.specs.Isolation.{StreamCall, StreamAnswer, Accept, Reject, Post, PostRecv, FirstNumber, Deliver, Work, WorkWithin, Emit, BreakLink, Close, RegisterFor, RegisterDrawnFor, RegisterOctetsFor, RegisterOctetsDrawnFor, SetMulpdu, Private, Told, PeerOptions, Standing, HasDue, PeerFirst, Sent, DueLen, InOrderPoint, BoundBuffers, Limits, Worked, Emitted, Bound, Counted, stream_answer, after_stream, answer_or, unless, if_there}
 use Rattle.iw_endpoint.proofs.Rewritten.{over_denies, over_register, over_stag, over_drawn, registered_passes, drawn_passes, retired_passes}

@@ -32,7 +32,7 @@ use Rattle.iw_endpoint.specs.declared.refusal.CallRefusal.TheVariants.{Refused}
 use Rattle.iw_endpoint.specs.Numbers.{put_at}
 use Rattle.iw_endpoint.specs.Endpoint.{EndpointState, Pool, fresh, no_streams, new_stream, new_shared, pool_of, lent_to, left_of, with_worked, with_stream, stream_of, stream_at, unopened, refusal_at, rest_refusal, limit_refusal, limited, domain_refusal, added, registered as registered_at, deregistered, store_refusal, stored, rewritten, open_refusal, opened, share_refusal, shared, pool_refusal, pooled, take_refusal, after_take, open_shared_refusal, opened_shared, next_refusal, opened_next, next_shared_refusal, opened_shared_next}
 use Rattle.iw_endpoint.specs.Drawing.{registered_drawn, limited_drawn}
-use Rattle.iw_endpoint.specs.Keeping.{registered_form, limited_form, drawn_form, limited_drawn_form}
+use Rattle.iw_endpoint.specs.KeptRegions.{registered_form, limited_form, drawn_form, limited_drawn_form}
 use Rattle.iw_endpoint.specs.Sharing.{emptied, with_worked_alone}
 use Rattle.iw_endpoint.specs.Isolation.{StreamCall, Accept, Reject, Post, PostRecv, FirstNumber, Deliver, Work, WorkWithin, Emit, BreakLink, Close, RegisterFor, RegisterDrawnFor, RegisterOctetsFor, RegisterOctetsDrawnFor, SetMulpdu, Private, Told, PeerOptions, Standing, HasDue, PeerFirst, Sent, DueLen, InOrderPoint, BoundBuffers, Limits, Call, AddDomain, Register, RegisterDrawn, RegisterOctets, RegisterOctetsDrawn, Deregister, DeregisterKept, TakeRegion, Invalidate, Store, Facts, Local, LocalMut, Open, Share, PostShared, TakeShared, OpenShared, OpenNext, OpenSharedNext, AtStream, stream_answer, after_stream, after, after_all, unless, if_there}
 use Rattle.iw_endpoint.specs.Limited.{KnowNumbers, IsAnothers, LimitedRegionsAreApart, StreamsKnowTheirNumbers}

@@ -18,7 +18,7 @@ use Rattle.iw_stream.specs.declared.answer.Role.{Role}
 use Rattle.iw_stream.specs.Starting.{exceeds_request}
 use Rattle.iw_endpoint.specs.declared.refusal.OpenNextRefusal.TheVariants as next_refusals
 use Rattle.iw_endpoint.specs.Endpoint.{EndpointState, with_table, stream_numbers, is_taken, domain_refusal, added, deregistered, store_refusal, stored, rewritten, pool_of, share_fault, share_refusal, shared, pool_fault, pool_refusal, pooled, take_fault, take_refusal, taken_at, after_take, number_refusal, request_refusal, open_refusal, opened, open_shared_refusal_of, unshared, open_shared_refusal, opened_shared, next_refusal, opened_next, next_shared_refusal, opened_shared_next}
-use Rattle.iw_endpoint.specs.Keeping.{region_in}
+use Rattle.iw_endpoint.specs.KeptRegions.{region_in}
 use Rattle.iw_endpoint.specs.Isolation.{Call, Answer, AddDomain, Register, RegisterDrawn, RegisterOctets, RegisterOctetsDrawn, Deregister, DeregisterKept, TakeRegion, Invalidate, Store, Facts, Local, LocalMut, Open, Share, PostShared, TakeShared, OpenShared, OpenNext, OpenSharedNext, AtStream, answer, after, after_all, answer_or, unless}
 use Rattle.iw_endpoint.specs.Isolation.{Added, Registered, Octets, Invalidated, Found, Stored, Opened, Shared, Pooled, Taken, OpenedShared, OpenedNext, OfStream}
 use Rattle.iw_endpoint.specs.Limited.{KnowNumbers, PassesBy, Spares, answers, LimitedRegionsStayApart}

@@ -32,7 +32,7 @@ use Rattle.iw_endpoint.specs.declared.refusal.LimitRefusal.TheVariants as limits
 use Rattle.iw_endpoint.specs.declared.refusal.OpenNextRefusal.TheVariants as next_refusals
 use Rattle.iw_endpoint.specs.Numbers.{put_at}
 use Rattle.iw_endpoint.specs.Endpoint.{EndpointState, Pool, new_stream, new_shared, HasNumbers, closed_at, is_taken, rest_refusal, with_next, next_refusal, next_shared_refusal, pool_of, with_pool, share_fault, share_refusal, pool_fault, pool_refusal, take_fault, take_refusal, taken, lent_to, left_of, pool_left, with_worked, stream_of, stream_at, unopened, with_stream, with_table, answer_at, refusal_at, limit_refusal, number_refusal, request_refusal, open_refusal, open_shared_refusal, open_shared_refusal_of, unshared, stream_numbers}
-use Rattle.iw_endpoint.specs.Keeping.{region_in}
+use Rattle.iw_endpoint.specs.KeptRegions.{region_in}
 use Rattle.iw_endpoint.specs.Sharing.{emptied, with_worked_alone}
 use Rattle.iw_endpoint.specs.Isolation.{StreamCall, Accept, Reject, Post, PostRecv, Deliver, Work, WorkWithin, Emit, BreakLink, Close, OpenNext, OpenSharedNext, SetMulpdu, Private, Told, PeerOptions, Standing, HasDue, Sent, DueLen, InOrderPoint, BoundBuffers, Limits, RegisterFor, RegisterDrawnFor, RegisterOctetsFor, RegisterOctetsDrawnFor, AddDomain, Register, RegisterDrawn, RegisterOctets, RegisterOctetsDrawn, Deregister, DeregisterKept, TakeRegion, Invalidate, Store, Facts, Local, LocalMut, Open, Share, PostShared, TakeShared, OpenShared, AtStream, FirstNumber, PeerFirst}
 use Rattle.iw_endpoint.specs.Isolation.{StreamAnswer, Bound, Accepted, Rejected, Posted, Buffered, Delivered, Worked, Emitted, Broke, Closed, Sized, Shown, Declared, Wanted, Stood, Due, Counted, Limited, Added, Registered, Octets, Invalidated, Found, Stored, Opened, Shared, Pooled, Taken, OpenedShared, OpenedNext, OfStream, Numbered}

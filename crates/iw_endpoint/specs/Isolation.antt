@@ -42,7 +42,7 @@ use Rattle.iw_endpoint.specs.declared.refusal.TakeRefusal.{TakeRefusal}
 use Rattle.iw_endpoint.specs.Numbers.{filled, trimmed}
 use Rattle.iw_endpoint.specs.Endpoint.{EndpointState, HasNumbers, Pool, closed_at, next_refusal, next_shared_refusal, opened_next, opened_shared_next, close_refusal, after_close, stream_numbers, domain_numbers, no_pools, fresh, pool_of, share_refusal, shared, pool_refusal, pooled, take_refusal, taken_at, after_take, open_shared_refusal, opened_shared, stream_of, stream_at, limit_refusal, limited, answer_at, domain_refusal, added, registered, octets_of, deregistered, invalidated, facts_at, store_refusal, stored, rewritten, open_refusal, opened, answer_refusal, agreement, accepted, rejected, post_refusal, with_request, recv_refusal, with_buffer, delivery_at, after_deliver, emission_at, emitted_at, after_emit, step_at, after_work, broken, size_refusal, with_mulpdu, private_at, told_at, options_at, standing_at, has_due, sent_at, point_at, first_refusal, with_first, first_at}
 use Rattle.iw_endpoint.specs.Drawing.{registered_drawn, limited_drawn}
-use Rattle.iw_endpoint.specs.Keeping.{registered_form, limited_form, drawn_form, limited_drawn_form}
+use Rattle.iw_endpoint.specs.KeptRegions.{registered_form, limited_form, drawn_form, limited_drawn_form}
 use Rattle.iw_endpoint.specs.Sharing.{bound_at, step_within, after_work_within}
 
 -- ---- calls, as values

@@ -11,6 +11,6 @@ pub mod Copied
 pub mod Emptying
 pub mod Settling
 pub mod Drawing
-pub mod Keeping
+pub mod KeptRegions
 pub mod Sharing
 pub mod Shares

@@ -1,3 +1,4 @@
+//! The domains of closed streams whose numbers the application picked.
 ghost use Rattle.std.specs.Prelude.{◌≡◌, is_some, slice_index_or, slice_set, None, Some};
 ghost use Rattle.iw_endpoint.specs.Endpoint.{no_closed};
 

@@ -1,3 +1,4 @@
+//! The endpoint: its domains, regions, pools and the calls on its streams; other calls are in `endpoint/`.
 ghost use Rattle.std.specs.Prelude.{◌≡◌, ◌↔◌, ◌+◌, ◌<◌, ◌≤◌, ◌^◌, ◌++◌, true, false, length, ◌-◌};
 ghost use Rattle.std.specs.Prelude.{Some, None, option_copied, is_some, IsSome, IfSome, IfNone};
 ghost use Rattle.std.specs.Prelude.{Ok, is_ok, IsErr, IfOk, IfErr, OnOk, OnErr, max, vec_len, vec_capacity};
@@ -18,12 +19,12 @@ ghost use Rattle.iw_endpoint.specs.Endpoint.{pool_refusal_of};
 
 mod closing;
 mod drawing;
-mod keeping;
+mod kept_regions;
 mod lending;
-mod limiting;
 mod next;
 mod opening;
 mod sharing;
+mod stream_regions;
 
 use crate::closed::Closed;
 use crate::pools::Pools;
@@ -678,8 +679,8 @@ impl<A: Allocator> Endpoint<A> {
         }
     }
 
-    /// Does nothing; its clauses state the limits that a stream keeps ([`iw_stream::Stream::limits`]), and that there
-    /// is a place for each of the numbers 0 to 63.
+    /// For the prover alone: it changes nothing. Its clauses state the limits that a stream keeps ([`iw_stream::Stream::limits`]),
+    /// and that there is a place for each of the numbers 0 to 63.
     pub fn limits(&self, number: u32) -> Result<(), NoSuchStream>
         ensures stream { is_ok result ≡ has_stream self.now number }
         ensures within { OnOk result (IsWithin (stream_at self.now number)) }

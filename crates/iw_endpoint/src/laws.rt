@@ -1,3 +1,4 @@
+//! What holds of all calls: domains apart, limited regions apart, numbers used once, shares, and coming to rest.
 ghost use Rattle.iw_endpoint.specs.Isolation.{CallsConcernOneDomain, DomainsAreAlone};
 ghost use Rattle.iw_endpoint.specs.Limited.{LimitedRegionsAreApart, LimitedRegionsStayApart, LimitedRegionsAreHidden, StreamsKnowTheirNumbers};
 ghost use Rattle.iw_endpoint.specs.Copied.{RefusesCopiedOctets};

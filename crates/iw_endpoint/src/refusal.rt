@@ -1,3 +1,4 @@
+//! Why calls on an endpoint are refused.
 use iw_memory::RegisterRefusal;
 use std::fmt::Display;
 use thiserror::Error;

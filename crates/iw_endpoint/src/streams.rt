@@ -1,3 +1,4 @@
+//! The streams of an endpoint, by number.
 ghost use Rattle.std.specs.Prelude.{◌≡◌, ◌<◌, ◌≤◌, length, nat_eq, slice_index_or, slice_set, OnOk, OnErr, None, Some};
 ghost use Rattle.std.specs.Option.{option_copied, option_copied_mut};
 ghost use Rattle.std.specs.Borrow.{sem};
@@ -113,7 +114,7 @@ impl<A: Allocator> Streams<A> {
         }
     }
 
-    /// Does nothing; its clause states that there is a place for each number that an application picks.
+    /// For the prover alone: it does nothing. Its clause states that there is a place for each number that an application picks.
     pub(crate) fn limits(&self)
         ensures { stream_numbers ≤ length self.now }
     {

@@ -28,8 +28,8 @@ use Rattle.std.specs.declared.alloc.Global.{Global}
 use Rattle.std.specs.contracts.alloc.Global as heap
 use Rattle.std.proofs.alloc.Global.TheLaws as heap_laws
 use Rattle.std.specs.contracts.impls.GlobalAllocator.TheImpl.{ghosts}
-use Rattle.iw_handle.proofs.held.Held.TheLaws as held_laws
-use Rattle.iw_handle.specs.declared.held.Held.{Held}
+use Rattle.iw_handle.proofs.open_handle.Held.TheLaws as held_laws
+use Rattle.iw_handle.specs.declared.open_handle.Held.{Held}
 use Rattle.iw_handle.specs.Ownership.{held_row, handle_owns}
 use Rattle.iw_handle.specs.contracts.handle.Handle as handle
 use Rattle.iw_handle.specs.contracts.parts.Parts as parts

@@ -3,7 +3,7 @@ use Rattle.std.proofs.Common.{◌≡◌, List, ℕ, Option, Some, subst}
 use Rattle.std.specs.Prelude.{IfSome}
 use Rattle.iw_buffer.specs.Octets as buffers
 use Rattle.iw_endpoint.specs.Endpoint.{EndpointState}
-use Rattle.iw_handle.specs.declared.held.Held.{Held}
+use Rattle.iw_handle.specs.declared.open_handle.Held.{Held}
 use Rattle.iw_handle.specs.declared.refusal.Refusal.{Refusal}
 use Rattle.iw_handle.specs.State.{State, refusal_with}
 

@@ -5,7 +5,7 @@ use Rattle.iw_lines.specs.Line.{new_line}
 use Rattle.iw_lines.specs.Lines.{LineTable, place_of, with_place, opened}
 use Rattle.iw_lines.proofs.Places.{put_back}
 use Rattle.iw_endpoint.specs.Endpoint.{EndpointState}
-use Rattle.iw_handle.specs.declared.held.Held.{Held}
+use Rattle.iw_handle.specs.declared.open_handle.Held.{Held}
 
 -- a line was made, no stream was opened, and what the number had is put back
 pub undone : (held : Held) (e : EndpointState) (made back : LineTable) (number : ℕ) (before : Option Line) →

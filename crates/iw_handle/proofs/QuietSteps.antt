@@ -9,7 +9,7 @@ use Rattle.iw_stream.specs.declared.answer.Step.TheVariants.{Buffered, Requested
 use Rattle.iw_stream.specs.declared.answer.Step.TheVariants.{Fault, Idle}
 use Rattle.iw_endpoint.specs.Endpoint.{EndpointState, step_at, after_work}
 use Rattle.iw_handle.specs.declared.event.Event.{Event}
-use Rattle.iw_handle.specs.declared.held.Held.{Held}
+use Rattle.iw_handle.specs.declared.open_handle.Held.{Held}
 use Rattle.iw_lines.specs.Line.{oldest_token}
 use Rattle.iw_lines.specs.Lines.{LineTable, line_at}
 use Rattle.iw_handle.specs.declared.refusal.Refusal.{Refusal}

@@ -9,7 +9,7 @@ use Rattle.iw_connection.specs.Marking.{is_above_mark, passes_mark}
 use Rattle.iw_connection.proofs.Binding.{passes_buffered}
 use Rattle.iw_codes.specs.declared.numbers.TheConstants as numbers
 use Rattle.iw_handle.specs.declared.event.Event.{Event}
-use Rattle.iw_handle.specs.declared.held.Held.{Held}
+use Rattle.iw_handle.specs.declared.open_handle.Held.{Held}
 use Rattle.iw_handle.specs.declared.refusal.Refusal.{Refusal}
 use Rattle.iw_handle.specs.Events.{event_of}
 use Rattle.iw_handle.specs.Marking.{marks_at, with_mark, WorksMarked, WorksOnMarked}

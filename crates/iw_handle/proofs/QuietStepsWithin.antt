@@ -6,7 +6,7 @@ use Rattle.iw_stream.specs.declared.answer.Step.{Step}
 use Rattle.iw_endpoint.specs.Endpoint.{EndpointState}
 use Rattle.iw_endpoint.specs.Sharing.{step_within, after_work_within}
 use Rattle.iw_handle.specs.declared.event.Event.{Event}
-use Rattle.iw_handle.specs.declared.held.Held.{Held}
+use Rattle.iw_handle.specs.declared.open_handle.Held.{Held}
 use Rattle.iw_lines.specs.Line.{oldest_token}
 use Rattle.iw_lines.specs.Lines.{LineTable, line_at}
 use Rattle.iw_handle.specs.declared.refusal.Refusal.{Refusal}

@@ -8,7 +8,7 @@ use Rattle.iw_connection.specs.Filling.{FillsTo}
 use Rattle.iw_stream.specs.Stream.{BeginsReads, due}
 use Rattle.iw_endpoint.specs.Endpoint.{EndpointState, stream_at, emitted_at}
 use Rattle.iw_handle.specs.declared.event.Filling.{Filling}
-use Rattle.iw_handle.specs.declared.held.Held.{Held}
+use Rattle.iw_handle.specs.declared.open_handle.Held.{Held}
 use Rattle.iw_handle.specs.declared.refusal.Refusal.{Refusal}
 use Rattle.iw_handle.specs.declared.refusal.Refusal.TheVariants as refusals
 use Rattle.iw_handle.specs.Events.{filling_of}

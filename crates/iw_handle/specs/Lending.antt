@@ -6,7 +6,7 @@ use Rattle.iw_endpoint.specs.Endpoint.{EndpointState, stream_at}
 use Rattle.iw_endpoint.specs.Reading.{Counts, lendable}
 use Rattle.iw_stream.specs.Reading.{room_ahead, most_taken}
 use Rattle.iw_stream.specs.Stream.{ended}
-use Rattle.iw_handle.specs.declared.held.Held.{Held}
+use Rattle.iw_handle.specs.declared.open_handle.Held.{Held}
 use Rattle.iw_handle.specs.State.{State}
 
 -- for how many octets a place is lent, if so many are wanted

@@ -9,12 +9,12 @@ pub mod Openings
 pub mod Events
 pub mod Steps
 pub mod Lending
-pub mod Limiting
+pub mod StreamRegions
 pub mod Limits
 pub mod Sending
-pub mod Sized
+pub mod Structs
 pub mod Registering
-pub mod Keeping
+pub mod KeptRegions
 pub mod Sharing
 pub mod Marking
 pub mod Filling

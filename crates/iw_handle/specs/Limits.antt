@@ -2,9 +2,9 @@
 use Rattle.std.specs.Prelude.{◌≡◌, ◌≤◌, ℕ, ◌==◌, ◌^◌, ◌-◌, Bool, true, not, nat_lt, if◌then◌else◌, Option, None}
 use Rattle.iw_codes.specs.declared.numbers.TheConstants as numbers
 use Rattle.iw_handle.specs.declared.refusal.Refusal.{Refusal}
-use Rattle.iw_handle.specs.declared.sized.Limits.{Limits}
-use Rattle.iw_handle.specs.declared.sized.TheConstants as sizes
-use Rattle.iw_handle.specs.Sized.{struct_refusal}
+use Rattle.iw_handle.specs.declared.structs.Limits.{Limits}
+use Rattle.iw_handle.specs.declared.structs.TheConstants as sizes
+use Rattle.iw_handle.specs.Structs.{struct_refusal}
 use Rattle.iw_handle.specs.State.{first_of}
 use Rattle.iw_handle.specs.Words.{bits_refusal, has_bit}
 

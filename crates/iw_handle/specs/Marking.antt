@@ -4,7 +4,7 @@ use Rattle.std.specs.Prelude.{◌≡◌, ℕ, ◌<◌, ◌≤◌, Bool, true, fa
 use Rattle.iw_codes.specs.declared.numbers.TheConstants as numbers
 use Rattle.iw_connection.specs.Marking.{passes_mark}
 use Rattle.iw_handle.specs.declared.event.Event.{Event}
-use Rattle.iw_handle.specs.declared.held.Held.{Held}
+use Rattle.iw_handle.specs.declared.open_handle.Held.{Held}
 use Rattle.iw_handle.specs.declared.refusal.Refusal.{Refusal}
 use Rattle.iw_handle.specs.Refusals.{code_of}
 use Rattle.iw_handle.specs.Sharing.{is_quiet_within, GoesQuietlyWithin, after_steps_within, WorksWithin}

@@ -4,7 +4,7 @@ use Rattle.std.specs.Option.{option_map}
 use Rattle.iw_lines.specs.Lends.{without_lent}
 use Rattle.iw_lines.specs.Lines as lines
 use Rattle.iw_endpoint.specs.Endpoint.{EndpointState, next_number, next_refusal, next_shared_refusal, close_refusal, after_close}
-use Rattle.iw_handle.specs.declared.held.Held.{Held}
+use Rattle.iw_handle.specs.declared.open_handle.Held.{Held}
 use Rattle.iw_handle.specs.declared.refusal.Refusal.{Refusal}
 use Rattle.iw_handle.specs.Refusals.{next_reason, close_reason}
 use Rattle.iw_handle.specs.State.{State, first_of}

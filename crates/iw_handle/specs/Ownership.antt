@@ -7,8 +7,8 @@ use denote.RawPtr.{Ptr, null_ptr}
 use Rattle.std.specs.declared.alloc.Global.{Global}
 use Rattle.std.specs.contracts.impls.GlobalAllocator.TheImpl.{ghosts}
 use Rattle.std.specs.Box.Ownership.{box_owns}
-use Rattle.iw_handle.specs.declared.held.Held.{Held}
-use Rattle.iw_handle.specs.contracts.held.Held as held
+use Rattle.iw_handle.specs.declared.open_handle.Held.{Held}
+use Rattle.iw_handle.specs.contracts.open_handle.Held as held
 
 abbrev pub held_row : RattleType
 held_row = held.the_row

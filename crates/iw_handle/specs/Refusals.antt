@@ -47,7 +47,7 @@ use Rattle.iw_handle.specs.declared.refusal.Refusal.TheVariants.{BadNumber, BadR
 use Rattle.iw_handle.specs.declared.refusal.Refusal.TheVariants.{MessagesFull, MessageTooLong, BuffersFull, Ended}
 use Rattle.iw_handle.specs.declared.refusal.Refusal.TheVariants.{BadSize, TooFar, Late}
 use Rattle.iw_handle.specs.declared.refusal.Refusal.TheVariants.{AlreadyShared, NotShared, PoolFull, Shared}
-use Rattle.iw_handle.specs.declared.refusal.Refusal.TheVariants.{NoBuffer, AlreadyMade, BufferTooLong, BadBits, NoReads}
+use Rattle.iw_handle.specs.declared.refusal.Refusal.TheVariants.{BufferMissing, BufferExists, BufferTooLong, BadBits, NoReads}
 
 -- ---- the endpoint's refusals
 
@@ -148,8 +148,8 @@ next_reason next_opening.NoMemory = NoMemory
 -- ---- of a buffer
 
 abbrev pub buffer_reason : BufferRefusal → Refusal
-buffer_reason buffer.NoBuffer = NoBuffer
-buffer_reason buffer.AlreadyMade = AlreadyMade
+buffer_reason buffer.BufferMissing = BufferMissing
+buffer_reason buffer.BufferExists = BufferExists
 buffer_reason buffer.NoMemory = NoMemory
 
 -- ---- codes
@@ -185,8 +185,8 @@ refusal_code AlreadyShared = numbers.ALREADY_SHARED
 refusal_code NotShared = numbers.NOT_SHARED
 refusal_code PoolFull = numbers.POOL_FULL
 refusal_code Shared = numbers.SHARED
-refusal_code NoBuffer = numbers.BUFFER_MISSING
-refusal_code AlreadyMade = numbers.BUFFER_EXISTS
+refusal_code BufferMissing = numbers.BUFFER_MISSING
+refusal_code BufferExists = numbers.BUFFER_EXISTS
 refusal_code BufferTooLong = numbers.BUFFER_TOO_LONG
 refusal_code BadBits = numbers.BAD_BITS
 refusal_code NoReads = numbers.NO_READS

@@ -7,10 +7,10 @@ use Rattle.iw_endpoint.specs.Endpoint.{EndpointState, stream_at, limit_refusal, 
 use Rattle.iw_endpoint.specs.Drawing.{registered_drawn, limited_drawn}
 use Rattle.iw_codes.specs.declared.numbers.TheConstants as numbers
 use Rattle.iw_handle.specs.declared.refusal.Refusal.{Refusal}
-use Rattle.iw_handle.specs.declared.sized.Registration.{Registration}
-use Rattle.iw_handle.specs.declared.sized.TheConstants as sizes
+use Rattle.iw_handle.specs.declared.structs.Registration.{Registration}
+use Rattle.iw_handle.specs.declared.structs.TheConstants as sizes
 use Rattle.iw_handle.specs.Refusals.{register_reason, limit_reason}
-use Rattle.iw_handle.specs.Sized.{struct_refusal}
+use Rattle.iw_handle.specs.Structs.{struct_refusal}
 use Rattle.iw_handle.specs.State.{first_of}
 use Rattle.iw_handle.specs.Words.{bits_refusal, domain_number, has_bit, rights_of}
 

@@ -6,7 +6,7 @@ use Rattle.iw_queues.specs.declared.request.Request.{Request}
 use Rattle.iw_lines.specs.Line.{with_payload, with_sent}
 use Rattle.iw_lines.specs.Lines.{line_at, with_line}
 use Rattle.iw_endpoint.specs.Endpoint.{with_request}
-use Rattle.iw_handle.specs.declared.held.Held.{Held}
+use Rattle.iw_handle.specs.declared.open_handle.Held.{Held}
 use Rattle.iw_handle.specs.State.{State}
 
 -- a message was posted from a buffer, which had these octets; the program knows it by this token

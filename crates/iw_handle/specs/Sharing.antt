@@ -8,7 +8,7 @@ use Rattle.iw_endpoint.specs.Sharing.{step_within, after_work_within, lent_withi
 use Rattle.iw_lines.specs.Line.{oldest_token}
 use Rattle.iw_lines.specs.Lines.{line_at}
 use Rattle.iw_handle.specs.declared.event.Event.{Event}
-use Rattle.iw_handle.specs.declared.held.Held.{Held}
+use Rattle.iw_handle.specs.declared.open_handle.Held.{Held}
 use Rattle.iw_handle.specs.declared.refusal.Refusal.{Refusal}
 use Rattle.iw_handle.specs.declared.refusal.Refusal.TheVariants.{NoMemory}
 use Rattle.iw_handle.specs.Events.{event_at}

@@ -3,11 +3,11 @@ use Rattle.std.specs.Prelude.{ℕ, nat_lt, List, [], ◌++◌, length, drop, if�
 use Rattle.std.specs.Option.{option_map, option_map_or}
 use Rattle.iw_buffer.specs.Octets as buffers
 use Rattle.iw_endpoint.specs.Endpoint.{EndpointState, has_stream}
-use Rattle.iw_handle.specs.declared.held.Held.{Held}
+use Rattle.iw_handle.specs.declared.open_handle.Held.{Held}
 use Rattle.iw_lines.specs.Lends.{none_lent, without_lent}
 use Rattle.iw_lines.specs.Lines.{no_lines}
 use Rattle.iw_handle.specs.declared.refusal.Refusal.{Refusal}
-use Rattle.iw_handle.specs.declared.refusal.Refusal.TheVariants.{Closed, NoRoom, NoSuchStream, NoBuffer, BufferTooLong}
+use Rattle.iw_handle.specs.declared.refusal.Refusal.TheVariants.{Closed, NoRoom, NoSuchStream, BufferMissing, BufferTooLong}
 
 -- closed, or what the handle has
 abbrev pub State : Type 0
@@ -33,7 +33,7 @@ refusal_in (Some held) refusal = refusal held.endpoint
 -- why a call that also takes a buffer is refused: that the handle is closed comes first, then that there is no buffer
 abbrev pub refusal_with : State → buffers.State → (EndpointState → List ℕ → Option Refusal) → Option Refusal
 refusal_with None buffer refusal = Some Closed
-refusal_with (Some held) None refusal = Some NoBuffer
+refusal_with (Some held) None refusal = Some BufferMissing
 refusal_with (Some held) (Some octets) refusal = refusal held.endpoint octets
 
 abbrev pub with_endpoint : Held → EndpointState → Held

@@ -27,7 +27,7 @@ use Rattle.iw_endpoint.specs.Sharing.{bound_at}
 use Rattle.iw_codes.specs.declared.numbers.TheConstants as numbers
 use Rattle.iw_handle.specs.declared.event.Event.{Event}
 use Rattle.iw_handle.specs.declared.event.Progress.{Progress}
-use Rattle.iw_handle.specs.declared.held.Held.{Held}
+use Rattle.iw_handle.specs.declared.open_handle.Held.{Held}
 use Rattle.iw_handle.specs.declared.refusal.Refusal.{Refusal}
 use Rattle.iw_handle.specs.declared.refusal.Refusal.TheVariants as refusals
 use Rattle.iw_handle.specs.Events.{event_at, emitted_of}

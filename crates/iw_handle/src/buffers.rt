@@ -1,4 +1,4 @@
-// Octets that change hands with no copy: a buffer's octets are a region's, or a frame is put behind them.
+//! Octets that change hands with no copy: a buffer's octets are a region's, or a frame is put behind them.
 ghost use Rattle.std.specs.Prelude.{◌≡◌, ◌++◌, None, Some, [], length, vec_len, vec_capacity, IfSome, IfNone, IfOk, IfErr, OnOk, OnErr};
 ghost use Rattle.std.specs.Result.{result_err};
 ghost use Rattle.iw_memory.specs.Table.{next_stag};
@@ -6,7 +6,7 @@ ghost use Rattle.iw_endpoint.specs.Endpoint.{registered, deregistered, octets_of
 ghost use Rattle.iw_endpoint.specs.Endpoint.{emission_at, emitted_at, after_emit};
 ghost use Rattle.iw_handle.specs.Events.{emitted_of, IsFrame};
 ghost use Rattle.iw_handle.specs.Filling.{TakesMemoryForReads, TakesMemoryForReadsAt};
-ghost use Rattle.iw_handle.specs.Keeping.{refusal_to_move};
+ghost use Rattle.iw_handle.specs.KeptRegions.{refusal_to_move};
 ghost use Rattle.iw_handle.specs.Regions.{refusal_to_register};
 ghost use Rattle.iw_handle.specs.State.{called_on, refusal_with, changed, told_in, shown_in};
 ghost use Rattle.iw_handle.specs.Streams.{refusal_to_go_on};
@@ -125,7 +125,7 @@ impl Handle {
         };
         let Some(mut lent) = buffer.take_vec(alloc) else {
             self.put(held);
-            return Err(Refusal::NoBuffer);
+            return Err(Refusal::BufferMissing);
         };
         let done = register_these(
             &mut held.endpoint,
@@ -161,7 +161,7 @@ impl Handle {
         };
         let Some(mut lent) = buffer.take_vec(alloc) else {
             self.put(held);
-            return Err(Refusal::NoBuffer);
+            return Err(Refusal::BufferMissing);
         };
         let done = deregister_these(&mut held.endpoint, stag, &mut lent.octets);
         self.put(held);
@@ -199,7 +199,7 @@ impl Handle {
         };
         let Some(mut lent) = buffer.take_vec(alloc) else {
             self.put(held);
-            return Err(Refusal::NoBuffer);
+            return Err(Refusal::BufferMissing);
         };
         let done = emit_onto(&mut held.endpoint, number, &mut lent.octets);
         self.put(held);

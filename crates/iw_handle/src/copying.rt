@@ -1,3 +1,4 @@
+//! Octets copied out to C, and checks that several calls share.
 ghost use Rattle.std.specs.Prelude.{◌≡◌, Some, length, OnOk, OnErr};
 ghost use Rattle.std.specs.Result.{result_err};
 ghost use Rattle.iw_handle.specs.State.{room_refusal, length_refusal, stream_refusal, filled};

@@ -1,4 +1,4 @@
-// Emission.
+//! Emission: the next frame, written to the program's octets, and whether one is due.
 ghost use Rattle.std.specs.Prelude.{◌≡◌, None, Some, length, IfSome, IfNone, IfOk, IfErr, OnOk, OnErr};
 ghost use Rattle.std.specs.Option.{option_map};
 ghost use Rattle.std.specs.Result.{result_err};
@@ -9,7 +9,7 @@ ghost use Rattle.iw_handle.specs.Streams.{refusal_to_emit, refusal_to_go_on, due
 
 use crate::event::{Emitted, Progress, emitted_of};
 use crate::handle::Handle;
-use crate::held::Held;
+use crate::open_handle::Held;
 use crate::refusal::Refusal;
 use iw_endpoint::{CallRefusal, Endpoint, MAX_PLACE};
 use std::alloc::Global;

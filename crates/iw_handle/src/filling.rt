@@ -1,4 +1,4 @@
-// Frames that are put behind a buffer's octets, until nothing more is due.
+//! Frames that are put behind a buffer's octets, until nothing more is due.
 ghost use Rattle.std.specs.Prelude.{◌≡◌, vec_len, vec_capacity, IfSome, IfNone, IfOk, IfErr, OnOk, OnErr};
 ghost use Rattle.iw_handle.specs.Filling.{stop_reason, FillsBy, FillsAt, TakesMemoryForReads, TakesMemoryForReadsAt};
 ghost use Rattle.iw_handle.specs.State.{called_on, refusal_with};
@@ -73,7 +73,7 @@ impl Handle {
         };
         let Some(mut lent) = buffer.take_vec(alloc) else {
             self.put(held);
-            return Err(Refusal::NoBuffer);
+            return Err(Refusal::BufferMissing);
         };
         let done = fill(&mut held.endpoint, number, most, &mut lent.octets);
         self.put(held);

@@ -1,9 +1,10 @@
+//! The handle itself: what it has is taken out of it by each call, and put back.
 ghost use Rattle.std.specs.Prelude.{◌≡◌, Option, None, Some};
 ghost use Rattle.std.specs.Option.{option_map};
-ghost use Rattle.iw_handle.specs.declared.held.Held.{Held};
+ghost use Rattle.iw_handle.specs.declared.open_handle.Held.{Held};
 ghost use Rattle.iw_handle.specs.Ownership.{handle_owns, state_coded};
 
-use crate::held::Held;
+use crate::open_handle::Held;
 use crate::parts::Parts;
 use std::alloc::Global;
 use std::marker::Model;

@@ -1,4 +1,4 @@
-// Calls that open and close a handle, and domains.
+//! Calls that open and close a handle, and domains.
 ghost use Rattle.std.specs.Prelude.{◌≡◌, ◌⊎◌, None, Some, IfSome, IfNone, IfErr, IfOk, OnOk, OnErr};
 ghost use Rattle.std.specs.Option.{option_map};
 ghost use Rattle.std.specs.Result.{result_err};
@@ -7,7 +7,7 @@ ghost use Rattle.iw_handle.specs.Refusals.{domain_reason};
 ghost use Rattle.iw_handle.specs.State.{open_with, refusal_in, changed};
 
 use crate::handle::Handle;
-use crate::held::Held;
+use crate::open_handle::Held;
 use crate::refusal::{Refusal, domain_reason};
 use iw_endpoint::Endpoint;
 use iw_lines::{Lends, Lines};

@@ -1,3 +1,4 @@
+//! What holds of all refusals, of cleared limits, and of calls at one stream for the others.
 ghost use Rattle.iw_handle.specs.Elsewhere.{CallsGiveWorkToTheirOwnStream};
 ghost use Rattle.iw_handle.specs.Limits.{ClearedSetsNone};
 ghost use Rattle.iw_handle.specs.Refusals.{CodesAreDistinct};

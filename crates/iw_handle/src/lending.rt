@@ -1,11 +1,11 @@
-// Octets that the program reads to a place that is lent.
+//! Octets that the program reads to a place that is lent.
 ghost use Rattle.std.specs.Prelude.{◌≡◌, ◌⊎◌, ◌<◌, IfSome, IfNone, IfOk, IfErr, OnOk, OnErr, IsSomeAnd, Some};
 ghost use Rattle.iw_handle.specs.Lending.{lendable_at, IsFull, IsNoPlace, IsUnlent, lent_at, held_lent, lent_in, HasTaken};
 ghost use Rattle.iw_endpoint.specs.Reading.{Counts};
 ghost use Rattle.iw_handle.specs.State.{called_on, refusal_in, told_in, stream_refusal};
 
 use crate::handle::Handle;
-use crate::held::Held;
+use crate::open_handle::Held;
 use crate::refusal::Refusal;
 use iw_endpoint::{CallRefusal, Endpoint, PlaceRefusal, TakeLentRefusal};
 use std::alloc::Global;

@@ -4,18 +4,16 @@
 
 mod buffers;
 mod copying;
-mod described;
 mod emitting;
 mod event;
 mod filling;
 mod handle;
 mod handle_opening;
-mod held;
-mod keeping;
+mod kept_regions;
 mod laws;
 mod lending;
-mod limiting;
 mod marking;
+mod open_handle;
 mod parts;
 mod pools;
 mod posting;
@@ -25,9 +23,11 @@ mod regions;
 mod registering;
 mod sending;
 mod sharing;
-mod sized;
 mod stream_opening;
+mod stream_regions;
 mod streams;
+mod struct_posting;
+mod structs;
 mod words;
 mod working;
 
@@ -36,9 +36,9 @@ pub use event::{
     event_of, facts_of, filling_of, kept_number, peer_told, state_number,
 };
 pub use handle::Handle;
-pub use held::Held;
 pub use laws::{calls_give_work_to_their_own_stream, cleared_limits_set_none, codes_are_distinct};
+pub use open_handle::Held;
 pub use refusal::{Refusal, buffer_reason, code};
-pub use sized::{Limits, Options, PeerTold, Posting, RegionTold, Registration};
+pub use structs::{Limits, Options, PeerTold, Posting, RegionTold, Registration};
 pub use words::{domain_number, read_request, stag_of};
 pub use working::QUIET_STEPS;

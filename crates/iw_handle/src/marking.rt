@@ -1,4 +1,4 @@
-// Work with a share of the domain's pool, and a high-water mark.
+//! Work with a share of the domain's pool, and a high-water mark.
 ghost use Rattle.std.specs.Prelude.{◌≡◌, ◌<◌, not, ◌&&◌, None, IfSome, IfNone, OnErr, IsSomeAnd};
 ghost use Rattle.std.specs.Result.{result_err};
 ghost use Rattle.iw_connection.specs.Marking.{is_above_mark, passes_over};
@@ -9,11 +9,11 @@ ghost use Rattle.iw_handle.specs.Steps.{is_quiet};
 
 use crate::event::{Event, is_quiet};
 use crate::handle::Handle;
-use crate::held::Held;
+use crate::open_handle::Held;
 use crate::refusal::Refusal;
 use crate::registering::{check_flags, has_flag};
 use crate::sharing::step;
-use crate::sized::{FLAGGED_LIMITS_SIZE, LIMITS_SIZE, Limits, check_size};
+use crate::structs::{FLAGGED_LIMITS_SIZE, LIMITS_SIZE, Limits, check_size};
 use crate::working::{QUIET_STEPS, pass, point, tell};
 use iw_codes::numbers;
 use iw_connection::is_above_mark;

@@ -1,4 +1,4 @@
-// Pools of receive buffers that streams of a domain share.
+//! Pools of receive buffers that streams of a domain share.
 ghost use Rattle.std.specs.Prelude.{◌≡◌, ◌⊎◌, None, Some, length, IfSome, IfNone, IfOk, IfErr, IsErr, OnOk, OnErr};
 ghost use Rattle.iw_endpoint.specs.Endpoint.{shared, pooled, opened_shared};
 ghost use Rattle.iw_handle.specs.Openings.{held_opened, opened_in};
@@ -9,7 +9,7 @@ ghost use Rattle.iw_handle.specs.Words.{role_in, config_of};
 
 use crate::copying::check_length;
 use crate::handle::Handle;
-use crate::held::Held;
+use crate::open_handle::Held;
 use crate::posting::zeroes;
 use crate::refusal::{Refusal, open_shared_reason, pool_reason, share_reason};
 use crate::stream_opening::open_shared_lined;

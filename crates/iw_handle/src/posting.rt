@@ -1,4 +1,4 @@
-// Posting to a stream.
+//! Posting to a stream: Sends and Writes of copied octets, Reads, and receive buffers.
 ghost use Rattle.std.specs.Prelude.{◌≡◌, ◌⊎◌, None, Some, length, IfSome, IfNone, IfOk, IfErr, IsErr, OnOk, OnErr};
 ghost use Rattle.iw_endpoint.specs.Endpoint.{with_buffer};
 ghost use Rattle.iw_handle.specs.Refusals.{post_reason};
@@ -9,7 +9,7 @@ ghost use Rattle.iw_handle.specs.Words.{bits_refusal};
 
 use crate::copying::check_length;
 use crate::handle::Handle;
-use crate::held::Held;
+use crate::open_handle::Held;
 use crate::refusal::{Refusal, post_reason, recv_reason};
 use crate::words::{check_bits, has_bit, invalidated_by};
 use bytes::Bytes;

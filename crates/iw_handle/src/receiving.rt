@@ -1,4 +1,4 @@
-// Receive buffers that change hands with no copy, so that none is made or cleared for each message.
+//! Receive buffers that change hands with no copy, so that none is made or cleared for each message.
 ghost use Rattle.std.specs.Prelude.{◌≡◌, None, Some, [], length, is_some, unwrap_or};
 ghost use Rattle.std.specs.Prelude.{IfSome, IfNone, IfOk, IfErr, OnOk, OnErr};
 ghost use Rattle.std.specs.Option.{option_map};
@@ -11,7 +11,7 @@ ghost use Rattle.iw_handle.specs.Streams.{refusal_to_lend, without_handed, fetch
 
 use crate::copying::{check_length, check_stream};
 use crate::handle::Handle;
-use crate::held::Held;
+use crate::open_handle::Held;
 use crate::refusal::{Refusal, pool_reason, recv_reason, take_reason};
 use iw_buffer::Buffer;
 use iw_endpoint::Endpoint;
@@ -136,7 +136,7 @@ impl Handle {
         };
         let Some(mut lent) = buffer.take_vec(alloc) else {
             self.put(held);
-            return Err(Refusal::NoBuffer);
+            return Err(Refusal::BufferMissing);
         };
         let done = fetch_these(&mut held, alloc, number, &mut lent.octets);
         self.put(held);
@@ -168,7 +168,7 @@ impl Handle {
         };
         let Some(mut lent) = buffer.take_vec(alloc) else {
             self.put(held);
-            return Err(Refusal::NoBuffer);
+            return Err(Refusal::BufferMissing);
         };
         let done = lend_these(&mut held.endpoint, alloc, number, &mut lent.octets);
         self.put(held);
@@ -198,7 +198,7 @@ impl Handle {
         };
         let Some(mut lent) = buffer.take_vec(alloc) else {
             self.put(held);
-            return Err(Refusal::NoBuffer);
+            return Err(Refusal::BufferMissing);
         };
         let done = pool_these(&mut held.endpoint, alloc, pd, &mut lent.octets);
         self.put(held);
@@ -228,7 +228,7 @@ impl Handle {
         };
         let Some(mut lent) = buffer.take_vec(alloc) else {
             self.put(held);
-            return Err(Refusal::NoBuffer);
+            return Err(Refusal::BufferMissing);
         };
         let done = take_these(&mut held.endpoint, pd, &mut lent.octets);
         self.put(held);

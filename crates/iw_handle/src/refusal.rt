@@ -1,4 +1,4 @@
-// Why calls are refused.
+//! Why calls are refused.
 ghost use Rattle.std.specs.Prelude.{◌≡◌, ◌<◌, ◌^◌, ◌↔◌, None, pos};
 ghost use Rattle.iw_handle.specs.Refusals.{domain_reason, register_reason, store_reason, code_of, refusal_code};
 ghost use Rattle.iw_handle.specs.Refusals.{open_reason, answer_reason, post_reason, recv_reason, first_reason, size_reason};
@@ -109,10 +109,10 @@ pub enum Refusal {
     Shared,
     /// The buffer was never made, or was freed.
     #[error("the buffer was not made, or was freed")]
-    NoBuffer,
+    BufferMissing,
     /// The buffer was made before, and not freed.
     #[error("the buffer was made before, and not freed: free it first")]
-    AlreadyMade,
+    BufferExists,
     /// A receive buffer has at most 16,777,216 octets.
     #[error("a receive buffer has at most 16,777,216 octets")]
     BufferTooLong,
@@ -140,6 +140,15 @@ pub enum Refusal {
     /// The region's octets are in memory that the program keeps, or are not: another call hands them back.
     #[error("the region's octets are in memory of the other kind: another call hands them back")]
     OtherMemory,
+}
+
+impl Refusal {
+    /// The older name of [`Refusal::BufferMissing`]. **Deprecated**: it goes with the next release.
+    #[allow(non_upper_case_globals)]
+    pub const NoBuffer: Refusal = Refusal::BufferMissing;
+    /// The older name of [`Refusal::BufferExists`]. **Deprecated**: it goes with the next release.
+    #[allow(non_upper_case_globals)]
+    pub const AlreadyMade: Refusal = Refusal::BufferExists;
 }
 
 pub(crate) fn domain_reason(refusal: DomainRefusal) -> Refusal
@@ -326,8 +335,8 @@ pub fn buffer_reason(refusal: BufferRefusal) -> Refusal
     ensures { result ≡ buffer_reason refusal }
 {
     match refusal {
-        BufferRefusal::NoBuffer => Refusal::NoBuffer,
-        BufferRefusal::AlreadyMade => Refusal::AlreadyMade,
+        BufferRefusal::BufferMissing => Refusal::BufferMissing,
+        BufferRefusal::BufferExists => Refusal::BufferExists,
         BufferRefusal::NoMemory => Refusal::NoMemory,
     }
 }
@@ -368,8 +377,8 @@ fn number(refusal: Refusal) -> u32
         Refusal::NotShared => numbers::NOT_SHARED,
         Refusal::PoolFull => numbers::POOL_FULL,
         Refusal::Shared => numbers::SHARED,
-        Refusal::NoBuffer => numbers::BUFFER_MISSING,
-        Refusal::AlreadyMade => numbers::BUFFER_EXISTS,
+        Refusal::BufferMissing => numbers::BUFFER_MISSING,
+        Refusal::BufferExists => numbers::BUFFER_EXISTS,
         Refusal::BufferTooLong => numbers::BUFFER_TOO_LONG,
         Refusal::BadBits => numbers::BAD_BITS,
         Refusal::NoReads => numbers::NO_READS,

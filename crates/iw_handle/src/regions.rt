@@ -1,4 +1,4 @@
-// Calls on regions.
+//! Calls on regions: register, deregister, store, load, and their facts.
 ghost use Rattle.std.specs.Prelude.{◌≡◌, ◌⊎◌, None, Some, length, IfSome, IfOk, IfErr, IsErr, OnOk, OnErr};
 ghost use Rattle.std.specs.Option.{option_map};
 ghost use Rattle.std.specs.Result.{result_err, result_ok};

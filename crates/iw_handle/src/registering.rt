@@ -1,4 +1,4 @@
-// Registering a region that a struct describes.
+//! Registering a region that a struct describes.
 ghost use Rattle.std.specs.Prelude.{◌≡◌, ◌<◌, ◌⊎◌, None, Some, [], length, IfSome, IfNone, IfOk, IfErr, IsErr, OnOk, OnErr};
 ghost use Rattle.std.specs.Result.{result_err};
 ghost use Rattle.iw_memory.specs.Table.{register_refusal};
@@ -10,7 +10,7 @@ ghost use Rattle.iw_handle.specs.Words.{bits_refusal, domain_number, has_bit};
 
 use crate::handle::Handle;
 use crate::refusal::{Refusal, limit_reason, register_reason};
-use crate::sized::{REGISTRATION_SIZE, Registration, check_size};
+use crate::structs::{REGISTRATION_SIZE, Registration, check_size};
 use crate::words::{check_bits, domain_number, rights_of};
 use iw_buffer::Buffer;
 use iw_codes::numbers;
@@ -232,7 +232,7 @@ impl Handle {
         };
         let Some(mut lent) = buffer.take_vec(alloc) else {
             self.put(held);
-            return Err(Refusal::NoBuffer);
+            return Err(Refusal::BufferMissing);
         };
         let done = register_these(&mut held.endpoint, alloc, registration, &mut lent.octets);
         self.put(held);

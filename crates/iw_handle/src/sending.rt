@@ -1,4 +1,4 @@
-// Messages that are posted from a buffer: nothing is copied, and the octets come back once the message is done or flushed.
+//! Messages that are posted from a buffer: nothing is copied, and the octets come back once the message is done or flushed.
 ghost use Rattle.std.specs.Prelude.{◌≡◌, ◌⊎◌, None, Some, [], IfSome, IfNone, IfOk, IfErr, IsErr, OnOk, OnErr};
 ghost use Rattle.iw_lines.specs.Line.{with_sent};
 ghost use Rattle.iw_lines.specs.Lines.{line_at, with_line};
@@ -10,7 +10,7 @@ ghost use Rattle.iw_handle.specs.Words.{bits_refusal};
 
 use crate::copying::check_stream;
 use crate::handle::Handle;
-use crate::held::Held;
+use crate::open_handle::Held;
 use crate::posting::reason_of;
 use crate::refusal::Refusal;
 use crate::words::{check_bits, has_bit, invalidated_by};
@@ -267,7 +267,7 @@ impl Handle {
         };
         let Some(mut lent) = buffer.take(alloc) else {
             self.put(held);
-            return Err(Refusal::NoBuffer);
+            return Err(Refusal::BufferMissing);
         };
         let done = send_these(&mut held, alloc, number, &mut lent, flags, stag, token);
         self.put(held);
@@ -302,7 +302,7 @@ impl Handle {
         };
         let Some(mut lent) = buffer.take(alloc) else {
             self.put(held);
-            return Err(Refusal::NoBuffer);
+            return Err(Refusal::BufferMissing);
         };
         let done = write_these(&mut held, alloc, number, stag, to, &mut lent, token);
         self.put(held);
@@ -335,7 +335,7 @@ impl Handle {
         };
         let Some(mut lent) = buffer.take(alloc) else {
             self.put(held);
-            return Err(Refusal::NoBuffer);
+            return Err(Refusal::BufferMissing);
         };
         let done = fetch_these(&mut held, alloc, number, &mut lent);
         self.put(held);

@@ -1,4 +1,4 @@
-// Work with a share of the domain's pool.
+//! Work with a share of the domain's pool.
 ghost use Rattle.std.specs.Prelude.{◌≡◌, ◌≤◌, true, None, IfSome, IfNone, IfOk, IfErr, OnOk, OnErr, IsSomeAnd};
 ghost use Rattle.std.specs.Result.{result_err};
 ghost use Rattle.iw_endpoint.specs.Endpoint.{has_stream, point_at};
@@ -9,7 +9,7 @@ ghost use Rattle.iw_handle.specs.Streams.{refusal_to_work};
 
 use crate::event::{Event, is_quiet};
 use crate::handle::Handle;
-use crate::held::Held;
+use crate::open_handle::Held;
 use crate::refusal::Refusal;
 use crate::working::{MOST_MOVED, QUIET_STEPS, pass, point, point_within, tell};
 use iw_endpoint::{CallRefusal, Endpoint, Octets, Step};

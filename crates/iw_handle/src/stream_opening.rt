@@ -1,4 +1,4 @@
-// Streams that are opened and closed, each with its line.
+//! Streams that are opened and closed, each with its line.
 ghost use Rattle.std.specs.Prelude.{◌≡◌, None, Some, length, IfSome, IfNone, IfOk, IfErr, OnOk, OnErr};
 ghost use Rattle.std.specs.Result.{result_err};
 ghost use Rattle.iw_endpoint.specs.Endpoint.{opened, open_refusal, opened_shared, open_shared_refusal};
@@ -9,7 +9,7 @@ ghost use Rattle.iw_handle.specs.State.{refusal_in, told_in};
 ghost use Rattle.iw_handle.specs.Words.{role_in, config_of};
 
 use crate::handle::Handle;
-use crate::held::Held;
+use crate::open_handle::Held;
 use crate::refusal::{Refusal, close_reason, next_reason};
 use crate::words::{config_of, role_of};
 use iw_endpoint::{Config, OpenNextRefusal, OpenRefusal, OpenSharedRefusal, Role};

@@ -1,4 +1,4 @@
-// Calls that open a stream, answer its Request and end it.
+//! Calls that open a stream, answer its Request and end it.
 ghost use Rattle.std.specs.Prelude.{◌≡◌, None, Some, length, IfSome, IfNone, IfOk, IfErr, OnOk, OnErr};
 ghost use Rattle.std.specs.Result.{result_err};
 ghost use Rattle.iw_endpoint.specs.Endpoint.{opened, accepted, rejected, agreement, broken, with_mulpdu, told_at, options_at, standing_at};
@@ -12,7 +12,7 @@ ghost use Rattle.iw_handle.specs.Words.{role_in, config_of, private_of};
 use crate::copying::copy_out;
 use crate::event::{Told, peer_told};
 use crate::handle::Handle;
-use crate::held::Held;
+use crate::open_handle::Held;
 use crate::refusal::{Refusal, answer_reason, open_reason, size_reason};
 use crate::stream_opening::open_lined;
 use crate::words::{config_of, private_of, role_of};

@@ -1,4 +1,4 @@
-// What C passes as numbers, turned into types.
+//! What C passes as numbers, turned into types.
 ghost use Rattle.std.specs.Prelude.{◌≡◌, ◌<◌, ◌≤◌, length, Some, None, IfOk};
 ghost use Rattle.std.specs.Option.{option_map};
 ghost use Rattle.std.specs.Result.{result_err};

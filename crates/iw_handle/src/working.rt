@@ -1,4 +1,4 @@
-// Delivery, work and what work hands back.
+//! Delivery, work and what work hands back.
 ghost use Rattle.std.specs.Prelude.{◌≡◌, ◌≤◌, ◌^◌, true, None, Some, length, IfSome, IfNone, IfOk, IfErr, OnOk, OnErr, IsSomeAnd};
 ghost use Rattle.std.specs.Option.{option_map};
 ghost use Rattle.std.specs.Result.{result_err};
@@ -17,7 +17,7 @@ ghost use Rattle.iw_handle.specs.Steps.{WorksOn};
 use crate::copying::{check_stream, copy_out};
 use crate::event::{Event, event_of, is_quiet};
 use crate::handle::Handle;
-use crate::held::Held;
+use crate::open_handle::Held;
 use crate::refusal::{Refusal, first_reason};
 use iw_endpoint::{CallRefusal, Delivery, Endpoint, MAX_PLACE, Octets, Step};
 use iw_lines::{Handed, Lines};

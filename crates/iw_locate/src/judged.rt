@@ -109,7 +109,8 @@ impl<T, A: Allocator> Judged<T, A> {
         self.records.len()
     }
 
-    /// The limits that the records keep: no two frames overlap, and there are 4,096 at most.
+    /// For the prover alone: it does nothing. Its clause states the limits that the records keep: no two frames overlap, and
+    /// there are 4,096 at most.
     pub fn limits(&self)
         ensures { IsWithinLimits self.now.records }
     {

@@ -1,3 +1,4 @@
+//! The slots of one domain, which of them are free, and their keys.
 ghost use Rattle.std.specs.Prelude.{◌≡◌, ◌<◌, ◌≤◌, ◌-◌, ◌++◌, length, slice_index_or, slice_set};
 ghost use Rattle.std.specs.Prelude.{[], OnOk, OnErr, replicate, vec_len, vec_capacity};
 ghost use Rattle.std.specs.List.{position_or_len};

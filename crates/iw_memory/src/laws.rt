@@ -1,3 +1,4 @@
+//! What holds of all tables of regions: what each call changes, and what peers may use.
 ghost use Rattle.iw_memory.specs.Laws.{PutChangesOneRegion, PutNothing, InvalidateChangesOneRegion};
 ghost use Rattle.iw_memory.specs.Laws.{RegisterChangesOneStag, DeregisterChangesOneStag};
 ghost use Rattle.iw_memory.specs.Laws.{DrawChangesOneStag, LastIsNotDrawn, EachIsDrawn};

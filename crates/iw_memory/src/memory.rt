@@ -1,3 +1,4 @@
+//! The registered regions of an endpoint, by STag.
 ghost use Rattle.std.specs.Prelude.{◌≡◌, ◌+◌, ◌-◌, ◌<◌, ◌≤◌, [], true, length, vec_len};
 ghost use Rattle.std.specs.Prelude.{None, Some, option_copied, is_some, IsSome, IfSome, IfNone, IsTrue, if◌then◌else◌};
 ghost use Rattle.std.specs.Prelude.{is_ok, IfOk, IfErr, IsErr, OnOk, OnErr};
@@ -495,7 +496,7 @@ impl<A: Allocator> Memory<A> {
         Ok(())
     }
 
-    /// The limits that the memory keeps.
+    /// For the prover alone: it does nothing. Its clause states the limits that the memory keeps.
     pub fn limits(&self)
         ensures { HoldsLimits self.now }
     {

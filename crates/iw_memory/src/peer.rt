@@ -1,3 +1,4 @@
+//! Who asks for the use of a region: a domain and a stream.
 ghost use Rattle.std.specs.Prelude.{◌≡◌};
 ghost use Rattle.iw_memory.specs.Region.{in_domain};
 

@@ -1,3 +1,4 @@
+//! Why calls are refused, and why a peer may not use or invalidate a region.
 use thiserror::Error;
 
 /// Why a domain was not added: the first reason that holds.

@@ -1,3 +1,4 @@
+//! Regions of one stream, made invalid when it is closed.
 ghost use Rattle.std.specs.Prelude.{◌≡◌, ◌||◌, is_some};
 ghost use Rattle.iw_memory.specs.Retiring.{retired_all, retired_at};
 

@@ -1,3 +1,4 @@
+//! What peers may use a region for, and the uses that ask for a right.
 ghost use Rattle.std.specs.Prelude.{◌≡◌};
 ghost use Rattle.iw_memory.specs.RightsText.{letter_of};
 ghost use Rattle.iw_memory.specs.Region.{grants};

@@ -1,3 +1,4 @@
+//! The slots of all domains, each with a region or free.
 ghost use Rattle.std.specs.Prelude.{◌≡◌, ◌<◌, ◌≤◌, length, slice_index_or, slice_set};
 ghost use Rattle.std.specs.Prelude.{Some, None, [], option_copied, is_some, IsTrue, OnOk, OnErr};
 ghost use Rattle.std.specs.List.{position_or_len};

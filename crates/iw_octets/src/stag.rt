@@ -66,7 +66,7 @@ impl Stag {
         self.number.to_be_bytes()
     }
 
-    /// States that the numbers fit their fields.
+    /// For the prover alone: it does nothing. Its clause states that the numbers fit their fields.
     pub fn known(&self)
         ensures { FitsStag self.now }
     {

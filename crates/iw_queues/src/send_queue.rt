@@ -98,7 +98,8 @@ impl<A: Allocator> SendQueue<A> {
         self.len() == 0
     }
 
-    /// The limits that the queue keeps: at most 256 messages, and at most 16,777,216 octets in each that is left to be sent.
+    /// For the prover alone: it does nothing. Its clause states the limits that the queue keeps: at most 256 messages, and at most
+    /// 16,777,216 octets in each that is left to be sent.
     pub fn limits(&self)
         ensures { IsWithinLimits self.now }
     {

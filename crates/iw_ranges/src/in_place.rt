@@ -120,7 +120,7 @@ impl<A: Allocator> Islands<A> {
     }
 }
 
-/// An octet is below 256: so much is known of a slice that is passed to a function.
+/// For the prover alone: it does nothing. An octet is below 256: so much is known of a slice that is passed to a function.
 #[inline(always)]
 fn are_octets(octets: &[u8])
     ensures { (k : ℕ) → slice_index octets.now k < 256 }

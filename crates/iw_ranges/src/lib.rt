@@ -218,7 +218,7 @@ impl<A: Allocator> Islands<A> {
         self.end
     }
 
-    /// The limits that what came keeps.
+    /// For the prover alone: it does nothing. Its clause states the limits that what came keeps.
     pub fn limits(&self)
         ensures { IsWithinLimits self.now.arrived }
     {

@@ -86,8 +86,8 @@ impl<A: Allocator> Reads<A> {
         self.reads.is_empty()
     }
 
-    /// The limits that the Reads keep: there are at most [`MAX_UNANSWERED`], and only of the oldest one's response had any
-    /// octets their turn.
+    /// For the prover alone: it does nothing. Its clause states the limits that the Reads keep: there are at most
+    /// [`MAX_UNANSWERED`], and only of the oldest one's response had any octets their turn.
     pub fn limits(&self)
         ensures { HoldsLimits self.now }
     {

@@ -128,8 +128,8 @@ impl Requests {
         self.unanswered.is_empty()
     }
 
-    /// The limits that the requests keep: at most [`MAX_UNANSWERED`] wait, each with a whole header and offsets that don't
-    /// wrap.
+    /// For the prover alone: it does nothing. Its clause states the limits that the requests keep: at most [`MAX_UNANSWERED`] wait,
+    /// each with a whole header and offsets that don't wrap.
     pub fn limits(&self)
         ensures { HoldsLimits self.now }
     {

@@ -1,3 +1,4 @@
+//! What calls on a stream answer, and why they are refused.
 use iw_memory::Right;
 use iw_octets::{Fault, Stag};
 use iw_queues::Kind;

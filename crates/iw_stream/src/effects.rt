@@ -1,3 +1,4 @@
+//! What the turn of a frame does beyond the octets that were placed (RFC 5041 5.3).
 ghost use Rattle.std.specs.Result.{result_err};
 ghost use Rattle.std.specs.Option.{option_map};
 ghost use Rattle.std.specs.Prelude.{◌≡◌, ◌+◌, ◌≤◌, length, IfOk, OnOk, OnErr};

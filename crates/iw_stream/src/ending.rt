@@ -1,3 +1,4 @@
+//! Whether a stream has ended, and what is still to be emitted then.
 ghost use Rattle.std.specs.Prelude.{◌≡◌, ◌≤◌, is_some, length, IfSome};
 ghost use Rattle.std.specs.Option.{option_map};
 ghost use Rattle.iw_stream.specs.Ending.{has_ended, is_broken, last_word};

@@ -1,3 +1,4 @@
+//! The octets that came, the in-order point, and the records of frames that were judged early.
 ghost use Rattle.std.specs.Prelude.{◌≡◌, ◌+◌, ◌-◌, ◌<◌, ◌≤◌, ◌^◌, ◌⊎◌, ℕ, [], length, true};
 ghost use Rattle.std.specs.Prelude.{IfOk, IfSome, OnOk, OnErr, IsTrue, MatchOption, Some, None};
 ghost use Rattle.std.specs.Option.{option_map};
@@ -72,7 +73,7 @@ impl<A: Allocator> Incoming<A> {
         &self.islands
     }
 
-    /// What always holds of what came, and of the records.
+    /// For the prover alone: it does nothing. Its clauses state what always holds of what came, and of the records.
     #[inline(always)]
     pub(crate) fn limits(&self)
         ensures arrived { IsWithinLimits self.now.arrived }

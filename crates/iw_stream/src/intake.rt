@@ -1,3 +1,4 @@
+//! What a read in place answers, and why no place is lent.
 use thiserror::Error;
 
 /// The most octets that one read takes.

@@ -1,3 +1,4 @@
+//! Where the payload of a frame goes: to a region or a receive buffer, or nowhere.
 ghost use Rattle.std.specs.Prelude.{◌≡◌, ◌-◌, ◌≤◌, ◌++◌, if◌then◌else◌, ℕ, List, [], take, drop, length, slice_index};
 ghost use Rattle.std.specs.Prelude.{true, Some, None, Ok, IfOk, IfSome, IfNone, OnSome, OnOk, OnErr};
 ghost use Rattle.iw_octets.specs.Head.{is_tagged};

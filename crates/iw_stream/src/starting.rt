@@ -1,3 +1,4 @@
+//! The start-up of a stream: the frames of both ends, and what they agree on (RFC 5044 7.1, RFC 6581).
 ghost use Rattle.std.specs.Prelude.{◌≡◌, ◌+◌, ◌≤◌, ◌^◌, ◌++◌, [], length, true, false, Some, IfOk, OnOk, OnErr, IsOk};
 ghost use Rattle.std.specs.Prelude.{vec_len, vec_capacity};
 ghost use Rattle.iw_ranges.specs.Arrived.{advanced, in_order};

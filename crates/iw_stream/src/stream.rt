@@ -1,3 +1,4 @@
+//! A stream: how it is made, its postings, and what is told of it; its other calls are in `stream/`.
 ghost use Rattle.std.specs.Prelude.{◌≡◌, ◌-◌, length, true, false, None, IfSome, IfNone, IfOk, IfErr, IsErr, OnOk, OnErr};
 ghost use Rattle.std.specs.Result.{result_err};
 ghost use Rattle.iw_ranges.specs.Arrived.{BringsOctets};
@@ -217,9 +218,10 @@ impl<A: Allocator> Stream<A> {
         self.receiving.is_shared()
     }
 
-    /// The limits that a stream keeps: at most 1,024 islands of octets that came, within 262,144 octets from the in-order
-    /// point on; at most 256 posted messages, of at most 16,777,216 octets each; at most 256 receive buffers; at most 16
-    /// Reads of each end that are not answered; a maximum ULPDU of 128 to 64,512 octets.
+    /// For the prover alone: it does nothing. Its clause states the limits that a stream keeps: at most 1,024 islands of octets
+    /// that came, within 262,144 octets from the in-order point on; at most 256 posted messages, of at most 16,777,216 octets
+    /// each; at most 256 receive buffers; at most 16 Reads of each end that are not answered; a maximum ULPDU of 128 to 64,512
+    /// octets.
     pub fn limits(&self)
         ensures { IsWithin self.now }
     {

@@ -1,3 +1,4 @@
+//! Terminates: the one that a fault makes due, and the one that came (RFC 5040 4.8).
 ghost use Rattle.std.specs.Prelude.{◌≡◌, ◌<◌, ◌≤◌, length, take, false};
 ghost use Rattle.iw_fpdu.specs.Found.{HoldsSpan, ulpdu};
 ghost use Rattle.iw_rdmap.specs.Terminate.{FitsFault, HasCause, header_len, has_segment};

@@ -1,3 +1,4 @@
+//! Frames that go out: headers, the octets of messages and responses, and the Terminate.
 ghost use Rattle.std.specs.Prelude.{◌≡◌, ◌+◌, ◌-◌, ◌<◌, ◌≤◌, ◌%◌, ◌^◌, ◌++◌, length, OnOk, OnErr, IsOk};
 ghost use Rattle.std.specs.Prelude.{vec_len, vec_capacity};
 ghost use Rattle.iw_octets.specs.declared.segment.Segment.TheVariants.{Tagged, Untagged};

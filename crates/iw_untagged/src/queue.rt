@@ -158,7 +158,7 @@ impl<A: Allocator> RecvQueue<A> {
         }
     }
 
-    /// Does nothing; its clause states the limits that the queue keeps.
+    /// For the prover alone: it does nothing. Its clause states the limits that the queue keeps.
     pub fn limits(&self)
         ensures { HoldsLimits self.now }
     {

@@ -10,7 +10,7 @@ use iw_octets::{Message, ReadRequest};
 use iw_stream::Request;
 use std::alloc::Allocator;
 
-// The numbers of an STag fit their types.
+// For the prover alone, as all of this file: the numbers of an STag fit their types.
 fn known_stag(stag: Stag)
     ensures { FitsStag stag }
 {
@@ -32,7 +32,7 @@ fn known_read(request: ReadRequest)
     known_stag(source);
 }
 
-/// Does nothing; its clause states that the numbers of a request fit their fields.
+/// For the prover alone: it does nothing. Its clause states that the numbers of a request fit their fields.
 pub(crate) fn known<A: Allocator>(request: &Request<Bytes<A>>)
     ensures { FitsPosted request.now }
 {

@@ -1,3 +1,4 @@
+//! Streams whose link broke, and streams that are forgotten.
 ghost use Rattle.std.specs.Prelude.{◌≡◌, is_ok, IfOk, OnOk, OnErr};
 ghost use Rattle.std.specs.Result.{result_err};
 ghost use Rattle.iw_stream.specs.Stream.{peer_of};

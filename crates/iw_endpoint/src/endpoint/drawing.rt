@@ -1,3 +1,4 @@
+//! Regions under STags that no peer guesses (RFC 5042 6.1.1).
 ghost use Rattle.std.specs.Prelude.{◌≡◌, length, IfSome, IfNone, IfOk, IfErr, IsErr, OnOk, OnErr};
 ghost use Rattle.iw_memory.specs.Table.{register_refusal, drawn_stag};
 

@@ -1,3 +1,4 @@
+//! Streams that are opened under the next number, which the endpoint gives.
 ghost use Rattle.std.specs.Prelude.{◌≡◌, false, length, Some, IfSome, IfNone, IfOk, IfErr, OnOk, OnErr};
 ghost use Rattle.std.specs.Result.{result_err};
 ghost use Rattle.iw_stream.specs.Starting.{exceeds_request};

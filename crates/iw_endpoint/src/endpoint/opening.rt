@@ -1,3 +1,4 @@
+//! Streams that are opened under a number that the application picks.
 ghost use Rattle.std.specs.Prelude.{◌≡◌, ◌<◌, ◌≤◌, false, length, slice_index_or, Some, None, IfSome, IfNone, IfOk, IfErr, OnOk, OnErr};
 ghost use Rattle.iw_stream.specs.Stream.{StreamState, numbered};
 ghost use Rattle.iw_stream.specs.Starting.{exceeds_request};

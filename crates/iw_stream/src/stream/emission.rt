@@ -1,3 +1,4 @@
+//! What is emitted next: start-up frames, the RTR, messages, responses and the Terminate.
 ghost use Rattle.std.specs.Prelude.{◌≡◌, ◌≤◌, ◌^◌, ◌++◌, ◌&&◌, nat_le, length, true, false};
 ghost use Rattle.std.specs.Prelude.{◌+◌, [], is_ok, Some, None, Ok, IfOk, IsOk, IsSome, OnOk, OnErr, vec_len, vec_capacity};
 ghost use Rattle.std.specs.Option.{option_map_or};

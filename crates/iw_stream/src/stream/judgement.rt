@@ -1,3 +1,4 @@
+//! The checks of frames, at the in-order point and before their turn, and where their payload goes.
 ghost use Rattle.std.specs.Prelude.{◌≡◌, ◌+◌, ◌<◌, ◌≤◌, ◌^◌, length, true, false};
 ghost use Rattle.std.specs.Prelude.{[], is_some, Some, None, Ok, IfSome, IfNone, OnSome, IfOk, OnOk, OnErr, IsTrue};
 ghost use Rattle.iw_fpdu.specs.Found.{HoldsSpan};

@@ -1,3 +1,4 @@
+//! How many octets the next frame has.
 ghost use Rattle.std.specs.Prelude.{◌≡◌, ◌+◌, ◌≤◌, ◌^◌, ℕ, List, length, not, Some};
 ghost use Rattle.std.specs.Option.{option_map_or};
 ghost use Rattle.iw_octets.specs.declared.segment.Segment.{Segment};

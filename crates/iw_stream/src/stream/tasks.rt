@@ -1,3 +1,4 @@
+//! One step of `work`: which task is next, and what it does.
 ghost use Rattle.std.specs.Prelude.{◌≡◌, ◌+◌, ◌≤◌, ◌^◌, true, false, Some, None, IsTrue, IfOk, OnOk, OnErr};
 ghost use Rattle.iw_memory.specs.Table.{Table};
 ghost use Rattle.iw_stream.specs.Starting.{is_open, awaits_frame, agreed_in, agreement_in, mismatch_in};

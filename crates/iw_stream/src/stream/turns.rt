@@ -1,3 +1,4 @@
+//! The turn of the frame at the in-order point, once it was placed.
 ghost use Rattle.std.specs.Prelude.{◌≡◌, ◌+◌, ◌≤◌, ◌^◌, true, false, is_some, IsSome, IsTrue, IfOk, OnErr, Some, None};
 ghost use Rattle.std.specs.Option.{option_map_or};
 ghost use Rattle.iw_memory.specs.Table.{Table};

@@ -1,6 +1,6 @@
 use Rattle.std.proofs.Common.{◌≡◌, Some, Err, rules}
 use Rattle.std.specs.Prelude.{length}
-use Rattle.iw_handle.specs.Limiting.{refusal_to_limit}
+use Rattle.iw_handle.specs.StreamRegions.{refusal_to_limit}
 use Rattle.iw_handle.proofs.Lent.{refused_with}
 use Rattle.iw_handle.proofs.handle.Handle.register_buffer_for.Goals as goal
 
