@@ -11,4 +11,5 @@ mod refusal;
 pub use buffer::Buffer;
 pub use contents::Contents;
 pub use lent::Lent;
+pub use parts::Parts;
 pub use refusal::BufferRefusal;

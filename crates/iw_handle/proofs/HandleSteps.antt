@@ -32,7 +32,7 @@ use Rattle.iw_handle.proofs.open_handle.Held.TheLaws as held_laws
 use Rattle.iw_handle.specs.declared.open_handle.Held.{Held}
 use Rattle.iw_handle.specs.Ownership.{held_row, handle_owns}
 use Rattle.iw_handle.specs.contracts.handle.Handle as handle
-use Rattle.iw_handle.specs.contracts.parts.Parts as parts
+use Rattle.iw_buffer.specs.contracts.parts.Parts as parts
 use denote.Signature.{Slot, plain}
 
 abbrev pub Z : RattleType

@@ -5,7 +5,7 @@ ghost use Rattle.iw_handle.specs.declared.open_handle.Held.{Held};
 ghost use Rattle.iw_handle.specs.Ownership.{handle_owns, state_coded};
 
 use crate::open_handle::Held;
-use crate::parts::Parts;
+use iw_buffer::Parts;
 use std::alloc::Global;
 use std::marker::Model;
 use std::ptr::null_mut;

@@ -14,7 +14,6 @@ mod laws;
 mod lending;
 mod marking;
 mod open_handle;
-mod parts;
 mod pools;
 mod posting;
 mod receiving;
