@@ -18,3 +18,4 @@ pub mod Unseen
 pub mod Emptying
 pub mod Settling
 mod Shares
+mod Registrations

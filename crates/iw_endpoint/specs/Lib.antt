@@ -12,5 +12,7 @@ pub mod Emptying
 pub mod Settling
 pub mod Drawing
 pub mod KeptRegions
+pub mod Registering
+pub mod Registrations
 pub mod Sharing
 pub mod Shares

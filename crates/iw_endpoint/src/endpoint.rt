@@ -23,6 +23,7 @@ mod kept_regions;
 mod lending;
 mod next;
 mod opening;
+mod registering;
 mod sharing;
 mod stream_regions;
 

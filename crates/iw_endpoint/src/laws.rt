@@ -2,6 +2,7 @@
 ghost use Rattle.iw_endpoint.specs.Isolation.{CallsConcernOneDomain, DomainsAreAlone};
 ghost use Rattle.iw_endpoint.specs.Limited.{LimitedRegionsAreApart, LimitedRegionsStayApart, LimitedRegionsAreHidden, StreamsKnowTheirNumbers};
 ghost use Rattle.iw_endpoint.specs.Copied.{RefusesCopiedOctets};
+ghost use Rattle.iw_endpoint.specs.Registrations.{RegistrationsAreCalls};
 ghost use Rattle.iw_endpoint.specs.Used.{NumbersAreUsedOnce};
 ghost use Rattle.iw_endpoint.specs.Emptying.{EmitComesToRest, KnownFrames, RefusesSentAgain};
 ghost use Rattle.iw_endpoint.specs.Shares.{StepsKeepShares, SharesSuffice};
@@ -20,6 +21,12 @@ pub fn calls_concern_one_domain()
 /// have if there were no other domain. It holds if no two domains ask for, or are given, the same stream number.
 pub fn domains_are_alone()
     ensures { DomainsAreAlone }
+{}
+
+/// A registration ([`Endpoint::register_as`](crate::Endpoint::register_as)) is the call that its fields choose, of those that
+/// the other laws are over: it leaves the same.
+pub fn registrations_are_calls()
+    ensures { RegistrationsAreCalls }
 {}
 
 /// In any list of calls to a new endpoint, a number whose stream was closed never has a stream again, if each call of

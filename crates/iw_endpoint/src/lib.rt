@@ -41,6 +41,9 @@
 //! another stream changes or emits an octet of it ([`limited_regions_are_apart`], and over lists of calls
 //! [`limited_regions_stay_apart`] and [`limited_regions_are_hidden`]).
 //!
+//! `register_as` is `register`, `register_for`, `register_drawn`, `register_octets` and their kin in one: a [`Registration`] says
+//! for whom the region is, where it begins, what it may be used for, and how its STag is chosen.
+//!
 //! A call that runs out of memory changes nothing and gives back what was handed in, and may be made again. docs/LIMITS.md names
 //! the calls that take memory.
 //!
@@ -112,6 +115,7 @@ mod endpoint;
 mod laws;
 mod pools;
 mod refusal;
+mod registration;
 mod scrap;
 mod streams;
 
@@ -132,10 +136,12 @@ pub use laws::{
     calls_concern_one_domain, domains_are_alone, emit_comes_to_rest, known_calls, known_frames,
     limited_regions_are_apart, limited_regions_are_hidden, limited_regions_stay_apart,
     numbers_are_used_once, refuses_copied_octets, refuses_sent_again, refuses_told_again,
-    shares_suffice, steps_keep_shares, streams_know_their_numbers, work_comes_to_rest,
+    registrations_are_calls, shares_suffice, steps_keep_shares, streams_know_their_numbers,
+    work_comes_to_rest,
 };
 pub use refusal::{
     CallRefusal, LimitRefusal, NoSuchStream, NotAtRest, OpenNextRefusal, OpenSharedRefusal,
     PlaceRefusal, PoolRefusal, ShareRefusal, TakeRefusal,
 };
+pub use registration::{Registration, Scope};
 pub use streams::STREAM_NUMBERS;
