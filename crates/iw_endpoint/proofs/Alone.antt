@@ -1,11 +1,12 @@
 -- Over any calls each domain is answered, and is left with, what it would be with no other domain at the endpoint.
-use Rattle.std.proofs.Common.{◌≡◌, ◌⊎◌, ℕ, zero, suc, cond, List, [], ◌∷◌, get_or, replicate, Option, Some, None, refl, sym, ap, subst, ◌∙◌, inl, inr}
-use Rattle.std.specs.Prelude.{IfSome}
+use Rattle.std.proofs.Common.{◌≡◌, ◌⊎◌, ℕ, zero, suc, true, false, cond, List, [], ◌∷◌, get_or, replicate, Option, Some, None, refl, sym, ap, subst, ◌∙◌, inl, inr}
+use Rattle.std.specs.Prelude.{IfSome, is_some}
 use Rattle.std.specs.Option.{option_map}
+use Rattle.std.proofs.lemmas.Bool.{false≢true, cases_Bool}
 use Rattle.std.proofs.lemmas.Bool.Decides.{eqb_tells}
 use Rattle.iw_stream.specs.Stream.{StreamState}
-use Rattle.iw_endpoint.specs.Endpoint.{EndpointState, fresh, no_streams, no_closed, stream_of, closed_at}
-use Rattle.iw_endpoint.specs.Isolation.{Call, AddDomain, Register, RegisterDrawn, RegisterOctets, RegisterOctetsDrawn, Deregister, DeregisterKept, TakeRegion, Invalidate, Store, Facts, Local, LocalMut, Open, Share, PostShared, TakeShared, OpenShared, OpenNext, OpenSharedNext, AtStream, HasDomains, IsOwn, IsOwnNumber, Concerns, Opens, OwnStep, OpensOwn, DomainsAreAlone, part_of, answer, after, owner, concerned, only, view, after_all, own_answer, own_answers, own_after_all}
+use Rattle.iw_endpoint.specs.Endpoint.{EndpointState, fresh, no_streams, no_closed, stream_of, closed_at, next_refusal, next_shared_refusal}
+use Rattle.iw_endpoint.specs.Isolation.{Call, AddDomain, Register, RegisterDrawn, RegisterOctets, RegisterOctetsDrawn, Deregister, DeregisterKept, TakeRegion, Invalidate, Store, Facts, Local, LocalMut, Open, Share, PostShared, TakeShared, OpenShared, OpenNext, OpenSharedNext, AtStream, HasDomains, IsOwn, IsOwnNumber, gives_none, Concerns, Opens, OwnStep, OpensOwn, DomainsAreAlone, part_of, answer, after, unless, owner, concerned, only, view, after_all, own_answer, own_answers, own_after_all}
 use Rattle.iw_endpoint.proofs.Parts.{fresh_domains}
 use Rattle.iw_endpoint.proofs.Steps.{concerns_one}
 
@@ -18,7 +19,11 @@ given : (whose : ℕ → ℕ) (e : EndpointState) (n : Option ℕ) (pd : ℕ) �
 given whose e None pd owned opens = tt
 given whose e (Some m) pd owned opens = subst (λ d. IsOwnNumber d e m) (opens m refl) (owned m)
 
-pub concerns : (whose : ℕ → ℕ) (e : EndpointState) (call : Call) → AreOwned whose e → ((n d : ℕ) → Opens n d call → whose n ≡ d) → Concerns (concerned whose call) e call
+-- each number under which the call opens a stream is its domain's
+abbrev pub IsOpenedOwn : (ℕ → ℕ) → EndpointState → Call → Type 0
+IsOpenedOwn whose e call = gives_none e call ≡ false → (n d : ℕ) → Opens n d call → whose n ≡ d
+
+pub concerns : (whose : ℕ → ℕ) (e : EndpointState) (call : Call) → AreOwned whose e → IsOpenedOwn whose e call → Concerns (concerned whose call) e call
 concerns whose e (AddDomain pd) owned opens = refl
 concerns whose e (Register pd base octets rights) owned opens = refl
 concerns whose e (RegisterDrawn pd base octets rights drawn) owned opens = refl
@@ -32,21 +37,21 @@ concerns whose e (Store stag to octets) owned opens = refl
 concerns whose e (Facts stag) owned opens = refl
 concerns whose e (Local stag) owned opens = refl
 concerns whose e (LocalMut stag octets) owned opens = refl
-concerns whose e (Open n pd role config) owned opens = (refl, subst (λ d. IsOwnNumber d e n) (opens n pd (refl, refl)) (owned n))
+concerns whose e (Open n pd role config) owned opens = (refl, subst (λ d. IsOwnNumber d e n) (opens refl n pd (refl, refl)) (owned n))
 concerns whose e (Share pd) owned opens = refl
 concerns whose e (PostShared pd buffer) owned opens = refl
 concerns whose e (TakeShared pd) owned opens = refl
-concerns whose e (OpenShared n pd role config) owned opens = (refl, subst (λ d. IsOwnNumber d e n) (opens n pd (refl, refl)) (owned n))
-concerns whose e (OpenNext n pd role config) owned opens = (refl, given whose e n pd owned (λ m is. opens m pd (is, refl)))
-concerns whose e (OpenSharedNext n pd role config) owned opens = (refl, given whose e n pd owned (λ m is. opens m pd (is, refl)))
+concerns whose e (OpenShared n pd role config) owned opens = (refl, subst (λ d. IsOwnNumber d e n) (opens refl n pd (refl, refl)) (owned n))
+concerns whose e (OpenNext n pd role config) owned opens = (refl, λ gives. given whose e n pd owned (λ m is. opens gives m pd (is, refl)))
+concerns whose e (OpenSharedNext n pd role config) owned opens = (refl, λ gives. given whose e n pd owned (λ m is. opens gives m pd (is, refl)))
 concerns whose e (AtStream n call) owned opens = owned n
 
 owned_by : (d x : ℕ) (o : Option StreamState) → option_map (λ s. s.domain) o ≡ Some x → IsOwn d o → x ≡ d
 owned_by d x None e own = absurd (let no : ⊥ = cc in no)
 owned_by d x (Some s) e own = let same : s.domain ≡ x = cc in sym same ∙ own
 
-pub stay_owned : (whose : ℕ → ℕ) (e : EndpointState) (call : Call) (d : ℕ) → AreOwned whose e → ((n d : ℕ) → Opens n d call → whose n ≡ d) → OwnStep d e call → AreOwned whose (after e call)
-stay_owned whose e call d owned opens step n = (go (stream_of (after e call) n) (step.owners n), ended (closed_at (after e call) n) (step.closed n))
+opened_owned : (whose : ℕ → ℕ) (e : EndpointState) (call : Call) (d : ℕ) → AreOwned whose e → ((n d : ℕ) → Opens n d call → whose n ≡ d) → OwnStep d e call → AreOwned whose (after e call)
+opened_owned whose e call d owned opens step n = (go (stream_of (after e call) n) (step.owners n), ended (closed_at (after e call) n) (step.closed n))
   where
     told : (s : StreamState) → (owner e n ≡ Some s.domain) ⊎ Opens n s.domain call → s.domain ≡ whose n
     told s h = elim h [ inl was ↦ owned_by (whose n) s.domain (stream_of e n) was (owned n).0 | inr opened ↦ sym (opens n s.domain opened) ]
@@ -64,6 +69,22 @@ stay_owned whose e call d owned opens step n = (go (stream_of (after e call) n) 
     ended : (o : Option ℕ) → IfSome o (λ x. (closed_at e n ≡ Some x) ⊎ (owner e n ≡ Some x)) → IfSome o (λ x. x ≡ whose n)
     ended None h = tt
     ended (Some x) h = last x h
+
+-- a refused call leaves all as it is
+kept_unless : {R : Type 0} (q : Option R) (e new : EndpointState) → is_some q ≡ true → unless q e new ≡ e
+kept_unless None e new refused = absurd (false≢true refused)
+kept_unless (Some r) e new refused = refl
+
+gives_nothing : (e : EndpointState) (call : Call) → gives_none e call ≡ true → after e call ≡ e
+gives_nothing e (OpenNext n pd role config) refused = kept_unless (next_refusal e n pd role config) e _ refused
+gives_nothing e (OpenSharedNext n pd role config) refused = kept_unless (next_shared_refusal e n pd role config) e _ refused
+gives_nothing e call refused = absurd (false≢true refused)
+
+pub stay_owned : (whose : ℕ → ℕ) (e : EndpointState) (call : Call) (d : ℕ) → AreOwned whose e → IsOpenedOwn whose e call → OwnStep d e call → AreOwned whose (after e call)
+stay_owned whose e call d owned opens step = elim (cases_Bool (gives_none e call)) [
+  | inl none ↦ subst (AreOwned whose) (sym (gives_nothing e call none)) owned
+  | inr gives ↦ opened_owned whose e call d owned (opens gives) step
+]
 
 record Runs (whose : ℕ → ℕ) (d : ℕ) (e : EndpointState) (calls : List Call) : Type 0 where
   answers : view whose d e calls ≡ own_answers d (part_of d e) (only whose d calls)
@@ -99,7 +120,7 @@ one_more whose d e call calls step rest = elim (eqb_tells (concerned whose call)
       }
 ]
 
-runs : (whose : ℕ → ℕ) (calls : List Call) (e : EndpointState) → HasDomains e → AreOwned whose e → OpensOwn whose calls → (d : ℕ) → Runs whose d e calls
+runs : (whose : ℕ → ℕ) (calls : List Call) (e : EndpointState) → HasDomains e → AreOwned whose e → OpensOwn whose e calls → (d : ℕ) → Runs whose d e calls
 runs whose [] e all owned opens d = record { answers = refl; part = refl }
 runs whose (call ∷ calls) e all owned opens d =
     let c = concerned whose call in

@@ -4,7 +4,7 @@ use Rattle.std.specs.Prelude.{nat_lt, if◌then◌else◌, unwrap_or}
 use Rattle.std.specs.Option.{option_map, option_or}
 use Rattle.iw_octets.specs.declared.stag.Stag.{Stag}
 use Rattle.iw_memory.specs.declared.peer.Peer.{Peer}
-use Rattle.iw_memory.specs.Region.{Region, bound_region}
+use Rattle.iw_memory.specs.Region.{most_octets, Region, bound_region}
 use Rattle.iw_memory.specs.Table.{Table, region_at, next_stag, drawn_stag, registered, registered_drawn, retired}
 use Rattle.iw_memory.specs.TableLending.{overwritten}
 use Rattle.iw_untagged.specs.Receiving.{exchanged}
@@ -14,7 +14,7 @@ use Rattle.iw_stream.specs.Stream.{StreamState, peer_of, sees, emission_of, emit
 use Rattle.iw_stream.specs.Work.{work_step, table_worked}
 use Rattle.iw_endpoint.specs.declared.refusal.CallRefusal.TheVariants.{Refused}
 use Rattle.iw_endpoint.specs.declared.refusal.LimitRefusal.TheVariants as limits
-use Rattle.iw_endpoint.specs.Endpoint.{EndpointState, Pool, pool_of, lent_to, left_of, pool_left, with_worked, with_stream, with_table, accepted, rejected, with_request, with_buffer, with_first, with_mulpdu, after_deliver, broken, stream_of, stream_at, unopened, answer_at, refusal_at, rest_refusal, running_refusal, limit_refusal, rewritten, answer_refusal, post_refusal, recv_refusal, first_refusal, size_refusal}
+use Rattle.iw_endpoint.specs.Endpoint.{EndpointState, Pool, pool_of, lent_to, left_of, pool_left, with_worked, with_stream, with_table, accepted, rejected, with_request, with_buffer, with_first, with_mulpdu, after_deliver, broken, stream_of, stream_at, unopened, answer_at, refusal_at, rest_refusal, running_refusal, limit_refusal_within, rewritten, answer_refusal, post_refusal, recv_refusal, first_refusal, size_refusal}
 use Rattle.iw_endpoint.specs.KeptRegions.{region_in}
 use Rattle.iw_endpoint.specs.Sharing.{emptied, with_worked_alone}
 use Rattle.iw_endpoint.specs.Isolation.{StreamCall, StreamAnswer, Accept, Reject, Post, PostRecv, FirstNumber, Deliver, Work, WorkWithin, Emit, BreakLink, Close, RegisterFor, RegisterDrawnFor, RegisterOctetsFor, RegisterOctetsDrawnFor, SetMulpdu, Private, Told, PeerOptions, Standing, HasDue, PeerFirst, Sent, DueLen, InOrderPoint, BoundBuffers, Limits, Worked, Emitted, Bound, Counted, stream_answer, after_stream, answer_or, unless, if_there}
@@ -43,14 +43,14 @@ module _ (e : EndpointState) (n : ℕ) (stag : Stag) (r : Region) (found : regio
   at_alike (Some s) at_f at_e same = ap Ok (same s refl)
 
   -- a registration for the stream, under its domain's next STag, or under one that is drawn
-  refused_alike : (base len : ℕ) → limit_refusal f n base len ≡ limit_refusal e n base len
-  refused_alike base len = ap (λ o. option_or (running_refusal e n) (option_map (λ refusal. Refused (limits.Refused refusal)) o)) (over_register e.table stag r found octets (stream_at e n).domain base len)
+  refused_alike : (most base len : ℕ) → limit_refusal_within most f n base len ≡ limit_refusal_within most e n base len
+  refused_alike most base len = ap (λ o. option_or (running_refusal e n) (option_map (λ refusal. Refused (limits.Refused refusal)) o)) (over_register e.table stag r found octets most (stream_at e n).domain base len)
 
-  told_bound : (base len : ℕ) → Bound (answer_or (limit_refusal f n base len) (next_stag t (stream_at e n).domain)) ≡ Bound (answer_or (limit_refusal e n base len) (next_stag e.table (stream_at e n).domain))
-  told_bound base len = λ i. Bound (answer_or (refused_alike base len i) (over_stag e.table stag r found octets (stream_at e n).domain i))
+  told_bound : (most base len : ℕ) → Bound (answer_or (limit_refusal_within most f n base len) (next_stag t (stream_at e n).domain)) ≡ Bound (answer_or (limit_refusal_within most e n base len) (next_stag e.table (stream_at e n).domain))
+  told_bound most base len = λ i. Bound (answer_or (refused_alike most base len i) (over_stag e.table stag r found octets (stream_at e n).domain i))
 
-  told_drawn : (base len drawn : ℕ) → Bound (answer_or (limit_refusal f n base len) (drawn_stag t (stream_at e n).domain drawn)) ≡ Bound (answer_or (limit_refusal e n base len) (drawn_stag e.table (stream_at e n).domain drawn))
-  told_drawn base len drawn = λ i. Bound (answer_or (refused_alike base len i) (over_drawn e.table stag r found octets (stream_at e n).domain drawn i))
+  told_drawn : (most base len drawn : ℕ) → Bound (answer_or (limit_refusal_within most f n base len) (drawn_stag t (stream_at e n).domain drawn)) ≡ Bound (answer_or (limit_refusal_within most e n base len) (drawn_stag e.table (stream_at e n).domain drawn))
+  told_drawn most base len drawn = λ i. Bound (answer_or (refused_alike most base len i) (over_drawn e.table stag r found octets (stream_at e n).domain drawn i))
 
   -- if it is no emission, or its octets are the same
   pub told_alike : (T : StreamCall → Type 0) → (T Emit → (s : StreamState) → stream_of e n ≡ Some s → emitted t s ≡ emitted e.table s) → (call : StreamCall) → T call → stream_answer f n call ≡ stream_answer e n call
@@ -81,10 +81,10 @@ module _ (e : EndpointState) (n : ℕ) (stag : Stag) (r : Region) (found : regio
       λ i. Emitted (at_alike (stream_of e n) (emission_of t) (emission_of e.table) (λ s is. same_emission s t e.table (denied (peer_of s))) i) (at_alike (stream_of e n) (emitted t) (emitted e.table) (emits told) i)
   told_alike T emits BreakLink told = refl
   told_alike T emits Close told = refl
-  told_alike T emits (RegisterFor base theirs rights) told = told_bound base (length theirs)
-  told_alike T emits (RegisterDrawnFor base theirs rights drawn) told = told_drawn base (length theirs) drawn
-  told_alike T emits (RegisterOctetsFor base theirs kept rights) told = told_bound base (length theirs)
-  told_alike T emits (RegisterOctetsDrawnFor base theirs kept rights drawn) told = told_drawn base (length theirs) drawn
+  told_alike T emits (RegisterFor base theirs rights) told = told_bound (most_octets false) base (length theirs)
+  told_alike T emits (RegisterDrawnFor base theirs rights drawn) told = told_drawn (most_octets false) base (length theirs) drawn
+  told_alike T emits (RegisterOctetsFor base theirs kept rights) told = told_bound (most_octets kept) base (length theirs)
+  told_alike T emits (RegisterOctetsDrawnFor base theirs kept rights drawn) told = told_drawn (most_octets kept) base (length theirs) drawn
   told_alike T emits (SetMulpdu size) told = refl
   told_alike T emits Private told = refl
   told_alike T emits Told told = refl
@@ -149,24 +149,24 @@ module _ (e : EndpointState) (n : ℕ) (stag : Stag) (r : Region) (found : regio
     left_there (Some s) new p = related new p
 
     -- a region is registered for the stream
-    left_bound : (base len : ℕ) (region : Region)
-        → Q (unless (limit_refusal f n base len) f (with_table e (registered t (stream_at e n).domain region))) (unless (limit_refusal e n base len) e (with_table e (registered e.table (stream_at e n).domain region)))
-    left_bound base len region =
+    left_bound : (most base len : ℕ) (region : Region)
+        → Q (unless (limit_refusal_within most f n base len) f (with_table e (registered t (stream_at e n).domain region))) (unless (limit_refusal_within most e n base len) e (with_table e (registered e.table (stream_at e n).domain region)))
+    left_bound most base len region =
         let d = (stream_at e n).domain in
         let new = with_table e (registered e.table d region) in
-        let q = limit_refusal e n base len in
-        let same : unless (limit_refusal f n base len) f (with_table e (registered t d region)) ≡ unless q f (rewritten new stag octets) =
-        λ i. unless (refused_alike base len i) f (with_table e (registered_passes e.table stag r found octets d region i)) in
+        let q = limit_refusal_within most e n base len in
+        let same : unless (limit_refusal_within most f n base len) f (with_table e (registered t d region)) ≡ unless q f (rewritten new stag octets) =
+        λ i. unless (refused_alike most base len i) f (with_table e (registered_passes e.table stag r found octets d region i)) in
         subst (λ x. Q x (unless q e new)) (sym same) (left_unless q new (registers d region))
 
-    left_drawn : (base len drawn : ℕ) (region : Region)
-        → Q (unless (limit_refusal f n base len) f (with_table e (registered_drawn t (stream_at e n).domain drawn region))) (unless (limit_refusal e n base len) e (with_table e (registered_drawn e.table (stream_at e n).domain drawn region)))
-    left_drawn base len drawn region =
+    left_drawn : (most base len drawn : ℕ) (region : Region)
+        → Q (unless (limit_refusal_within most f n base len) f (with_table e (registered_drawn t (stream_at e n).domain drawn region))) (unless (limit_refusal_within most e n base len) e (with_table e (registered_drawn e.table (stream_at e n).domain drawn region)))
+    left_drawn most base len drawn region =
         let d = (stream_at e n).domain in
         let new = with_table e (registered_drawn e.table d drawn region) in
-        let q = limit_refusal e n base len in
-        let same : unless (limit_refusal f n base len) f (with_table e (registered_drawn t d drawn region)) ≡ unless q f (rewritten new stag octets) =
-        λ i. unless (refused_alike base len i) f (with_table e (drawn_passes e.table stag r found octets d drawn region i)) in
+        let q = limit_refusal_within most e n base len in
+        let same : unless (limit_refusal_within most f n base len) f (with_table e (registered_drawn t d drawn region)) ≡ unless q f (rewritten new stag octets) =
+        λ i. unless (refused_alike most base len i) f (with_table e (drawn_passes e.table stag r found octets d drawn region i)) in
         subst (λ x. Q x (unless q e new)) (sym same) (left_unless q new (draws d drawn region))
 
     pub left_alike : (call : StreamCall) → Q (after_stream f n call) (after_stream e n call)
@@ -202,10 +202,10 @@ module _ (e : EndpointState) (n : ℕ) (stag : Stag) (r : Region) (found : regio
         go (Some s) is =
             let q = option_map Refused (rest_refusal s) in
             subst (λ u. Q (unless q f (record (closes e n s) { table = u })) (unless q e (closes e n s))) (sym (retired_passes e.table stag r found octets (peer_of s))) (left_unless q (closes e n s) (retires s is))
-    left_alike (RegisterFor base theirs rights) = left_bound base (length theirs) (bound_region n base theirs rights)
-    left_alike (RegisterDrawnFor base theirs rights drawn) = left_drawn base (length theirs) drawn (bound_region n base theirs rights)
-    left_alike (RegisterOctetsFor base theirs kept rights) = left_bound base (length theirs) (region_in base theirs kept rights (Some n))
-    left_alike (RegisterOctetsDrawnFor base theirs kept rights drawn) = left_drawn base (length theirs) drawn (region_in base theirs kept rights (Some n))
+    left_alike (RegisterFor base theirs rights) = left_bound (most_octets false) base (length theirs) (bound_region n base theirs rights)
+    left_alike (RegisterDrawnFor base theirs rights drawn) = left_drawn (most_octets false) base (length theirs) drawn (bound_region n base theirs rights)
+    left_alike (RegisterOctetsFor base theirs kept rights) = left_bound (most_octets kept) base (length theirs) (region_in base theirs kept rights (Some n))
+    left_alike (RegisterOctetsDrawnFor base theirs kept rights drawn) = left_drawn (most_octets kept) base (length theirs) drawn (region_in base theirs kept rights (Some n))
     left_alike (SetMulpdu size) = left_unless (size_refusal e n size) (with_mulpdu e n size) all
     left_alike Private = related e all
     left_alike Told = related e all

@@ -15,8 +15,8 @@ use Rattle.iw_memory.specs.declared.rights.Right.{Right}
 use Rattle.iw_memory.specs.Forms.{own_refusal, kept_refusal}
 use Rattle.iw_memory.specs.Laws.{ChangesOneStag, Serves, IsOutOfScope, AnswersAlike, DiffersOutOfScope}
 use Rattle.iw_memory.specs.Part.{own_region}
-use Rattle.iw_memory.specs.Region.{Region, is_in_scope, is_bound_to, made_invalid, retired_region, region_denial, region_denial_for, octets_from}
-use Rattle.iw_memory.specs.Table.{Table, part_of, region_at, denial_for, invalidate_denial_for, octets_at, register_refusal, put, invalidated, retired}
+use Rattle.iw_memory.specs.Region.{most_octets, Region, is_in_scope, is_bound_to, made_invalid, retired_region, region_denial, region_denial_for, octets_from}
+use Rattle.iw_memory.specs.Table.{Table, part_of, region_at, denial_for, invalidate_denial_for, octets_at, register_refusal, register_refusal_within, put, invalidated, retired}
 use Rattle.iw_memory.specs.TableLending.{overwritten}
 use Rattle.iw_memory.proofs.Callers.{allows, no_octets, own_region-region_at}
 use Rattle.iw_memory.proofs.LawLemmas.{stag_cases, with_region-changes}
@@ -30,7 +30,7 @@ use Rattle.iw_stream.specs.Stream.{StreamState, peer_of, sees, emission_of, emit
 use Rattle.iw_stream.specs.Work.{table_worked}
 use Rattle.iw_endpoint.specs.declared.refusal.CallRefusal.TheVariants.{Refused}
 use Rattle.iw_endpoint.specs.Numbers.{put_at}
-use Rattle.iw_endpoint.specs.Endpoint.{EndpointState, Pool, fresh, no_streams, new_stream, new_shared, pool_of, lent_to, left_of, with_worked, with_stream, stream_of, stream_at, unopened, refusal_at, rest_refusal, limit_refusal, limited, domain_refusal, added, registered as registered_at, deregistered, store_refusal, stored, rewritten, open_refusal, opened, share_refusal, shared, pool_refusal, pooled, take_refusal, after_take, open_shared_refusal, opened_shared, next_refusal, opened_next, next_shared_refusal, opened_shared_next}
+use Rattle.iw_endpoint.specs.Endpoint.{EndpointState, Pool, fresh, no_streams, new_stream, new_shared, pool_of, lent_to, left_of, with_worked, with_stream, stream_of, stream_at, unopened, refusal_at, rest_refusal, limit_refusal, limit_refusal_within, limited, domain_refusal, added, registered as registered_at, deregistered, store_refusal, stored, rewritten, open_refusal, opened, share_refusal, shared, pool_refusal, pooled, take_refusal, after_take, open_shared_refusal, opened_shared, next_refusal, opened_next, next_shared_refusal, opened_shared_next}
 use Rattle.iw_endpoint.specs.Drawing.{registered_drawn, limited_drawn}
 use Rattle.iw_endpoint.specs.KeptRegions.{registered_form, limited_form, drawn_form, limited_drawn_form}
 use Rattle.iw_endpoint.specs.Sharing.{emptied, with_worked_alone}
@@ -295,8 +295,8 @@ know_stream e n BreakLink know = know_changing (λ s. with_stream e n (stream.br
 know_stream e n Close know = know_refusing rest_refusal (closes e n) e n know (λ s is. know_set e.streams n None know tt)
 know_stream e n (RegisterFor base octets rights) know = know_unless (limit_refusal e n base (length octets)) e (limited e n base octets rights) know know
 know_stream e n (RegisterDrawnFor base octets rights drawn) know = know_unless (limit_refusal e n base (length octets)) e (limited_drawn e n base octets rights drawn) know know
-know_stream e n (RegisterOctetsFor base octets kept rights) know = know_unless (limit_refusal e n base (length octets)) e (limited_form e n base octets kept rights) know know
-know_stream e n (RegisterOctetsDrawnFor base octets kept rights drawn) know = know_unless (limit_refusal e n base (length octets)) e (limited_drawn_form e n base octets kept rights drawn) know know
+know_stream e n (RegisterOctetsFor base octets kept rights) know = know_unless (limit_refusal_within (most_octets kept) e n base (length octets)) e (limited_form e n base octets kept rights) know know
+know_stream e n (RegisterOctetsDrawnFor base octets kept rights drawn) know = know_unless (limit_refusal_within (most_octets kept) e n base (length octets)) e (limited_drawn_form e n base octets kept rights drawn) know know
 know_stream e n (SetMulpdu size) know = know_refusing (λ s. stream.size_refusal size) (λ s. with_stream e n (stream.with_mulpdu s size)) e n know (λ s is. know_with e n s (stream.with_mulpdu s size) know is refl)
 know_stream e n Private know = know
 know_stream e n Told know = know
@@ -314,8 +314,8 @@ pub know_step : (e : EndpointState) (call : Call) → KnowNumbers e → KnowNumb
 know_step e (AddDomain pd) know = know_unless (domain_refusal e pd) e (added e pd) know know
 know_step e (Register pd base octets rights) know = know_unless (register_refusal e.table pd base (length octets)) e (registered_at e pd base octets rights) know know
 know_step e (RegisterDrawn pd base octets rights drawn) know = know_unless (register_refusal e.table pd base (length octets)) e (registered_drawn e pd base octets rights drawn) know know
-know_step e (RegisterOctets pd base octets kept rights) know = know_unless (register_refusal e.table pd base (length octets)) e (registered_form e pd base octets kept rights) know know
-know_step e (RegisterOctetsDrawn pd base octets kept rights drawn) know = know_unless (register_refusal e.table pd base (length octets)) e (drawn_form e pd base octets kept rights drawn) know know
+know_step e (RegisterOctets pd base octets kept rights) know = know_unless (register_refusal_within (most_octets kept) e.table pd base (length octets)) e (registered_form e pd base octets kept rights) know know
+know_step e (RegisterOctetsDrawn pd base octets kept rights drawn) know = know_unless (register_refusal_within (most_octets kept) e.table pd base (length octets)) e (drawn_form e pd base octets kept rights drawn) know know
 know_step e (Deregister stag) know = know_unless (own_refusal e.table stag) e (deregistered e stag) know know
 know_step e (DeregisterKept stag) know = know_unless (kept_refusal e.table stag) e (deregistered e stag) know know
 know_step e (TakeRegion stag) know = know

@@ -4,7 +4,8 @@ use Rattle.std.specs.Prelude.{IfSome}
 use Rattle.std.specs.Option.{option_map}
 use Rattle.iw_memory.specs.declared.rights.Rights.{Rights}
 use Rattle.iw_memory.specs.declared.refusal.RegisterRefusal.{RegisterRefusal}
-use Rattle.iw_memory.specs.Table.{register_refusal}
+use Rattle.iw_memory.specs.Region.{most_octets}
+use Rattle.iw_memory.specs.Table.{register_refusal_within}
 use Rattle.iw_endpoint.specs.declared.registration.Scope.{Scope}
 use Rattle.iw_endpoint.specs.declared.registration.Scope.TheVariants.{Domain, Stream}
 use Rattle.iw_endpoint.specs.declared.refusal.CallRefusal.{CallRefusal}
@@ -22,11 +23,11 @@ unless_mapped f None e left = refl
 unless_mapped f (Some refusal) e left = refl
 
 called_by : (e : EndpointState) (scope : Scope) (base : ℕ) (octets : List ℕ) (kept : Bool) (rights : Rights) (drawn : Option ℕ)
-    → after e (call_by scope base octets kept rights drawn) ≡ unless (refusal_within e scope base (length octets)) e (registered_by e scope base octets kept rights drawn)
+    → after e (call_by scope base octets kept rights drawn) ≡ unless (refusal_within (most_octets kept) e scope base (length octets)) e (registered_by e scope base octets kept rights drawn)
 called_by e (Domain pd) base octets kept rights None =
-    unless_mapped (λ refusal. Refused (limits.Refused refusal)) (register_refusal e.table pd base (length octets)) e (registered_form e pd base octets kept rights)
+    unless_mapped (λ refusal. Refused (limits.Refused refusal)) (register_refusal_within (most_octets kept) e.table pd base (length octets)) e (registered_form e pd base octets kept rights)
 called_by e (Domain pd) base octets kept rights (Some drawn) =
-    unless_mapped (λ refusal. Refused (limits.Refused refusal)) (register_refusal e.table pd base (length octets)) e (drawn_form e pd base octets kept rights drawn)
+    unless_mapped (λ refusal. Refused (limits.Refused refusal)) (register_refusal_within (most_octets kept) e.table pd base (length octets)) e (drawn_form e pd base octets kept rights drawn)
 called_by e (Stream number) base octets kept rights None = refl
 called_by e (Stream number) base octets kept rights (Some drawn) = refl
 

@@ -15,9 +15,9 @@ use Rattle.iw_memory.specs.declared.refusal.RegisterRefusal.TheVariants.{NoDomai
 use Rattle.iw_memory.specs.declared.refusal.StoreRefusal.{StoreRefusal}
 use Rattle.iw_memory.specs.declared.refusal.StoreRefusal.TheVariants.{NoRegion, Outside}
 use Rattle.iw_memory.specs.declared.region.Facts.{Facts}
-use Rattle.iw_memory.specs.Part.{Part, SlotState, unused, own_slots, under_key, own_region, own_slot, own_changed, free_slot, free_from, with_room, retired_slot, own_retired, own_registered, own_registered_at, own_added, own_register_refusal, own_next_stag, own_drawn_stag, region_invalidate_denial}
+use Rattle.iw_memory.specs.Part.{Part, SlotState, unused, own_slots, under_key, own_region, own_slot, own_changed, free_slot, free_from, with_room, retired_slot, own_retired, own_registered, own_registered_at, own_added, own_register_refusal_within, own_next_stag, own_drawn_stag, region_invalidate_denial}
 use Rattle.iw_memory.specs.Region.{Region, facts_of, is_in_scope, is_bound_to, made_invalid, retired_region, region_with, overlay}
-use Rattle.iw_memory.specs.Table.{Table, part_of, with_part, slots_of, with_slot, region_at, with_region, put, invalidated, deregistered, retired, registered, registered_drawn, added, invalidate_denial_for, store_refusal, register_refusal, next_stag, drawn_stag, is_added}
+use Rattle.iw_memory.specs.Table.{Table, part_of, with_part, slots_of, with_slot, region_at, with_region, put, invalidated, deregistered, retired, registered, registered_drawn, added, invalidate_denial_for, store_refusal, register_refusal_within, next_stag, drawn_stag, is_added}
 use Rattle.iw_memory.proofs.ListLemmas.{length-overlay, overlay-read}
 use Rattle.iw_memory.proofs.Callers.{own_region-region_at, part_of-with_part_same, part_of-with_part_other, denial-same_facts}
 use Rattle.iw_memory.proofs.TableLemmas.{with_region-found, with_region-none, deregistered-found, deregistered-none}
@@ -216,9 +216,9 @@ same_room table stag change d = elim (eqb_tells d stag.domain) [
   ])
 ]
 
-room_refusal : (p q : Part) (base len : ℕ) → HasSameRoom p q → own_register_refusal p base len ≡ own_register_refusal q base len
-room_refusal p q base len h =
-    λ i. if not (h.there i) then Some NoDomain else (if nat_le 1024 (h.free i) then Some DomainFull else (if nat_lt 16777216 len then Some TooLong else (if nat_lt (2 ^ 64) (base + len) then Some BaseWrap else None)))
+room_refusal : (most : ℕ) (p q : Part) (base len : ℕ) → HasSameRoom p q → own_register_refusal_within most p base len ≡ own_register_refusal_within most q base len
+room_refusal most p q base len h =
+    λ i. if not (h.there i) then Some NoDomain else (if nat_le 1024 (h.free i) then Some DomainFull else (if nat_lt most len then Some TooLong else (if nat_lt (2 ^ 64) (base + len) then Some BaseWrap else None)))
 
 room_stag : (p q : Part) (pd : ℕ) → HasSameRoom p q → own_next_stag p pd ≡ own_next_stag q pd
 room_stag p q pd h =
@@ -431,5 +431,5 @@ module _ (table : Table) (stag : Stag) (r : Region) (found : region_at table sta
   pub over_drawn : (pd drawn : ℕ) → drawn_stag (over table) pd drawn ≡ drawn_stag table pd drawn
   over_drawn pd drawn = room_drawn (part_of (over table) pd) (part_of table pd) pd drawn (over_room pd)
 
-  pub over_register : (pd base len : ℕ) → register_refusal (over table) pd base len ≡ register_refusal table pd base len
-  over_register pd base len = room_refusal (part_of (over table) pd) (part_of table pd) base len (over_room pd)
+  pub over_register : (most pd base len : ℕ) → register_refusal_within most (over table) pd base len ≡ register_refusal_within most table pd base len
+  over_register most pd base len = room_refusal most (part_of (over table) pd) (part_of table pd) base len (over_room pd)

@@ -7,8 +7,8 @@ use Rattle.iw_octets.specs.declared.stag.Stag.{Stag}
 use Rattle.iw_memory.specs.declared.refusal.DeregisterRefusal.{DeregisterRefusal}
 use Rattle.iw_memory.specs.declared.refusal.DomainRefusal.TheVariants.{BadDomain, DomainTaken}
 use Rattle.iw_memory.specs.Part.{own_region, own_added}
-use Rattle.iw_memory.specs.Region.{Region, new_region, made_invalid}
-use Rattle.iw_memory.specs.Table.{part_of, region_at, is_added, register_refusal, next_stag, drawn_stag, registered, registered_drawn}
+use Rattle.iw_memory.specs.Region.{most_octets, Region, new_region, made_invalid}
+use Rattle.iw_memory.specs.Table.{part_of, region_at, is_added, register_refusal_within, next_stag, drawn_stag, registered, registered_drawn}
 use Rattle.iw_memory.specs.TableLending.{overwritten}
 use Rattle.iw_memory.proofs.TableLemmas.{slots_are}
 use Rattle.iw_memory.proofs.LawLemmas.{put-changes, with_region-changes, deregistered-changes}
@@ -87,21 +87,21 @@ module _ (e : EndpointState) (stag : Stag) (r : Region) (found : region_at e.tab
       go false none = none-some _ (sym none)
 
   -- a region is registered in any domain, under its next STag, or under one that is drawn
-  registers : (pd base : ℕ) (new : List ℕ) (region : Region)
-      → PassesBy (λ x. Registered (answer_or (register_refusal x.table pd base (length new)) (next_stag x.table pd))) (λ x. unless (register_refusal x.table pd base (length new)) x (with_table x (registered x.table pd region))) e stag
-  registers pd base new region =
-      passes_unless (λ x. register_refusal x.table pd base (length new)) (λ x. Registered (answer_or (register_refusal x.table pd base (length new)) (next_stag x.table pd))) (λ x. with_table x (registered x.table pd region))
-      (λ octets. over_register e.table stag r found octets pd base (length new))
-      (λ octets. (λ i. Registered (answer_or (over_register e.table stag r found octets pd base (length new) i) (over_stag e.table stag r found octets pd i))))
+  registers : (most pd base : ℕ) (new : List ℕ) (region : Region)
+      → PassesBy (λ x. Registered (answer_or (register_refusal_within most x.table pd base (length new)) (next_stag x.table pd))) (λ x. unless (register_refusal_within most x.table pd base (length new)) x (with_table x (registered x.table pd region))) e stag
+  registers most pd base new region =
+      passes_unless (λ x. register_refusal_within most x.table pd base (length new)) (λ x. Registered (answer_or (register_refusal_within most x.table pd base (length new)) (next_stag x.table pd))) (λ x. with_table x (registered x.table pd region))
+      (λ octets. over_register e.table stag r found octets most pd base (length new))
+      (λ octets. (λ i. Registered (answer_or (over_register e.table stag r found octets most pd base (length new) i) (over_stag e.table stag r found octets pd i))))
       (λ none. registered_keeps e.table pd region stag r found)
       (λ octets none. ap (with_table e) (registered_passes e.table stag r found octets pd region))
 
-  draws : (pd base : ℕ) (new : List ℕ) (region : Region) (drawn : ℕ)
-      → PassesBy (λ x. Registered (answer_or (register_refusal x.table pd base (length new)) (drawn_stag x.table pd drawn))) (λ x. unless (register_refusal x.table pd base (length new)) x (with_table x (registered_drawn x.table pd drawn region))) e stag
-  draws pd base new region drawn =
-      passes_unless (λ x. register_refusal x.table pd base (length new)) (λ x. Registered (answer_or (register_refusal x.table pd base (length new)) (drawn_stag x.table pd drawn))) (λ x. with_table x (registered_drawn x.table pd drawn region))
-      (λ octets. over_register e.table stag r found octets pd base (length new))
-      (λ octets. (λ i. Registered (answer_or (over_register e.table stag r found octets pd base (length new) i) (over_drawn e.table stag r found octets pd drawn i))))
+  draws : (most pd base : ℕ) (new : List ℕ) (region : Region) (drawn : ℕ)
+      → PassesBy (λ x. Registered (answer_or (register_refusal_within most x.table pd base (length new)) (drawn_stag x.table pd drawn))) (λ x. unless (register_refusal_within most x.table pd base (length new)) x (with_table x (registered_drawn x.table pd drawn region))) e stag
+  draws most pd base new region drawn =
+      passes_unless (λ x. register_refusal_within most x.table pd base (length new)) (λ x. Registered (answer_or (register_refusal_within most x.table pd base (length new)) (drawn_stag x.table pd drawn))) (λ x. with_table x (registered_drawn x.table pd drawn region))
+      (λ octets. over_register e.table stag r found octets most pd base (length new))
+      (λ octets. (λ i. Registered (answer_or (over_register e.table stag r found octets most pd base (length new) i) (over_drawn e.table stag r found octets pd drawn i))))
       (λ none. drawn_keeps e.table pd drawn region stag r found)
       (λ octets none. ap (with_table e) (drawn_passes e.table stag r found octets pd drawn region))
 
@@ -119,10 +119,10 @@ module _ (e : EndpointState) (stag : Stag) (r : Region) (found : region_at e.tab
       passes_unless (λ x. domain_refusal x pd) (λ x. Added (domain_refusal x pd)) (λ x. added x pd) (added_alike pd) (λ octets. ap Added (added_alike pd octets))
       (λ none. ap (λ part. own_region part stag) (get_or-set_other e.table pd stag.domain own_added None (λ same. not_added pd none (sym same))))
       (λ octets none. ap (with_table e) (added_passes e.table stag r found octets pd (not_added pd none)))
-  passes n (Register pd base new rights) know limited spares = registers pd base new (new_region base new rights)
-  passes n (RegisterDrawn pd base new rights drawn) know limited spares = draws pd base new (new_region base new rights) drawn
-  passes n (RegisterOctets pd base new kept rights) know limited spares = registers pd base new (region_in base new kept rights None)
-  passes n (RegisterOctetsDrawn pd base new kept rights drawn) know limited spares = draws pd base new (region_in base new kept rights None) drawn
+  passes n (Register pd base new rights) know limited spares = registers (most_octets false) pd base new (new_region base new rights)
+  passes n (RegisterDrawn pd base new rights drawn) know limited spares = draws (most_octets false) pd base new (new_region base new rights) drawn
+  passes n (RegisterOctets pd base new kept rights) know limited spares = registers (most_octets kept) pd base new (region_in base new kept rights None)
+  passes n (RegisterOctetsDrawn pd base new kept rights drawn) know limited spares = draws (most_octets kept) pd base new (region_in base new kept rights None) drawn
   passes n (Deregister other) know limited ne = hands_back own_fault other ne
   passes n (DeregisterKept other) know limited ne = hands_back kept_fault other ne
   passes n (TakeRegion other) know limited ne = record {

@@ -10,7 +10,7 @@ use Rattle.iw_memory.specs.declared.refusal.NoRegion.{NoRegion}
 use Rattle.iw_memory.specs.declared.refusal.RegisterRefusal.{RegisterRefusal}
 use Rattle.iw_memory.specs.Forms.{own_refusal, kept_refusal}
 use Rattle.iw_memory.specs.Part as regions
-use Rattle.iw_memory.specs.Region.{facts_of, new_region, bound_region, overlay}
+use Rattle.iw_memory.specs.Region.{most_octets, facts_of, new_region, bound_region, overlay}
 use Rattle.iw_memory.specs.Table as tables
 use Rattle.iw_memory.specs.Table.{Table, is_added, with_part, retired}
 use Rattle.iw_stream.specs.declared.answer.OpenRefusal.{OpenRefusal}
@@ -31,7 +31,7 @@ use Rattle.iw_endpoint.specs.declared.refusal.LimitRefusal.{LimitRefusal}
 use Rattle.iw_endpoint.specs.declared.refusal.LimitRefusal.TheVariants as limits
 use Rattle.iw_endpoint.specs.declared.refusal.OpenNextRefusal.TheVariants as next_refusals
 use Rattle.iw_endpoint.specs.Numbers.{put_at}
-use Rattle.iw_endpoint.specs.Endpoint.{EndpointState, Pool, new_stream, new_shared, HasNumbers, closed_at, is_taken, rest_refusal, with_next, next_refusal, next_shared_refusal, pool_of, with_pool, share_fault, share_refusal, pool_fault, pool_refusal, take_fault, take_refusal, taken, lent_to, left_of, pool_left, with_worked, stream_of, stream_at, unopened, with_stream, with_table, answer_at, refusal_at, limit_refusal, number_refusal, request_refusal, open_refusal, open_shared_refusal, open_shared_refusal_of, unshared, stream_numbers}
+use Rattle.iw_endpoint.specs.Endpoint.{EndpointState, Pool, new_stream, new_shared, HasNumbers, closed_at, is_taken, rest_refusal, with_next, next_refusal, next_shared_refusal, pool_of, with_pool, share_fault, share_refusal, pool_fault, pool_refusal, take_fault, take_refusal, taken, lent_to, left_of, pool_left, with_worked, stream_of, stream_at, unopened, with_stream, with_table, answer_at, refusal_at, limit_refusal_within, number_refusal, request_refusal, open_refusal, open_shared_refusal, open_shared_refusal_of, unshared, stream_numbers}
 use Rattle.iw_endpoint.specs.KeptRegions.{region_in}
 use Rattle.iw_endpoint.specs.Sharing.{emptied, with_worked_alone}
 use Rattle.iw_endpoint.specs.Isolation.{StreamCall, Accept, Reject, Post, PostRecv, Deliver, Work, WorkWithin, Emit, BreakLink, Close, OpenNext, OpenSharedNext, SetMulpdu, Private, Told, PeerOptions, Standing, HasDue, Sent, DueLen, InOrderPoint, BoundBuffers, Limits, RegisterFor, RegisterDrawnFor, RegisterOctetsFor, RegisterOctetsDrawnFor, AddDomain, Register, RegisterDrawn, RegisterOctets, RegisterOctetsDrawn, Deregister, DeregisterKept, TakeRegion, Invalidate, Store, Facts, Local, LocalMut, Open, Share, PostShared, TakeShared, OpenShared, AtStream, FirstNumber, PeerFirst}
@@ -118,19 +118,19 @@ told_at d e f None at_e at_f own same = refl
 told_at d e f (Some s) at_e at_f own same = ap Ok (same s own)
 
 -- a registration for a stream, under the STag that the domain's part gives
-bound_answers : (named : regions.Part → ℕ → Stag) (base len : ℕ) (d : ℕ) (e f : EndpointState) (n : ℕ) → IsOwn d (stream_of e n) → stream_of e n ≡ stream_of f n → AreSeenAlike d e f
-    → Bound (answer_or (limit_refusal e n base len) (named (tables.part_of e.table (stream_at e n).domain) (stream_at e n).domain)) ≡ Bound (answer_or (limit_refusal f n base len) (named (tables.part_of f.table (stream_at f n).domain) (stream_at f n).domain))
-bound_answers named base len d e f n own same h = go (stream_of e n) own ∙ ap (bound f) same
+bound_answers : (most : ℕ) (named : regions.Part → ℕ → Stag) (base len : ℕ) (d : ℕ) (e f : EndpointState) (n : ℕ) → IsOwn d (stream_of e n) → stream_of e n ≡ stream_of f n → AreSeenAlike d e f
+    → Bound (answer_or (limit_refusal_within most e n base len) (named (tables.part_of e.table (stream_at e n).domain) (stream_at e n).domain)) ≡ Bound (answer_or (limit_refusal_within most f n base len) (named (tables.part_of f.table (stream_at f n).domain) (stream_at f n).domain))
+bound_answers most named base len d e f n own same h = go (stream_of e n) own ∙ ap (bound f) same
   where
     bound : EndpointState → Option StreamState → StreamAnswer
     bound x o =
-        Bound (answer_or (option_or (refusal_at o (λ s. if ended s then Some limits.Ended else None)) (option_map (λ refusal. Refused (limits.Refused refusal)) (regions.own_register_refusal (tables.part_of x.table (unwrap_or o unopened).domain) base len)))
+        Bound (answer_or (option_or (refusal_at o (λ s. if ended s then Some limits.Ended else None)) (option_map (λ refusal. Refused (limits.Refused refusal)) (regions.own_register_refusal_within most (tables.part_of x.table (unwrap_or o unopened).domain) base len)))
         (named (tables.part_of x.table (unwrap_or o unopened).domain) (unwrap_or o unopened).domain))
 
     go : (o : Option StreamState) → IsOwn d o → bound e o ≡ bound f o
     go None own = refl
     go (Some s) own = ap (λ part.
-        Bound (answer_or (option_or (refusal_at (Some s) (λ s. if ended s then Some limits.Ended else None)) (option_map (λ refusal. Refused (limits.Refused refusal)) (regions.own_register_refusal part base len)))
+        Bound (answer_or (option_or (refusal_at (Some s) (λ s. if ended s then Some limits.Ended else None)) (option_map (λ refusal. Refused (limits.Refused refusal)) (regions.own_register_refusal_within most part base len)))
         (named part s.domain))) (at_own d e f s own h).part
 
 stream_answers : (d : ℕ) (e f : EndpointState) (n : ℕ) (call : StreamCall) → IsOwn d (stream_of e n) → stream_of e n ≡ stream_of f n → AreSeenAlike d e f → stream_answer e n call ≡ stream_answer f n call
@@ -163,10 +163,10 @@ stream_answers d e f n Emit own same h =
     ∙ ap (λ o. Emitted (answer_at o (λ s. emission_of f.table (unwrap_or o unopened))) (answer_at o (λ s. emitted f.table (unwrap_or o unopened)))) same
 stream_answers d e f n BreakLink own same h = ap (λ o. Broke (answer_at o (λ s. tt))) same
 stream_answers d e f n Close own same h = ap (λ o. Closed (refusal_at o rest_refusal)) same
-stream_answers d e f n (RegisterFor base octets rights) own same h = bound_answers regions.own_next_stag base (length octets) d e f n own same h
-stream_answers d e f n (RegisterDrawnFor base octets rights drawn) own same h = bound_answers (λ part pd. regions.own_drawn_stag part pd drawn) base (length octets) d e f n own same h
-stream_answers d e f n (RegisterOctetsFor base octets kept rights) own same h = bound_answers regions.own_next_stag base (length octets) d e f n own same h
-stream_answers d e f n (RegisterOctetsDrawnFor base octets kept rights drawn) own same h = bound_answers (λ part pd. regions.own_drawn_stag part pd drawn) base (length octets) d e f n own same h
+stream_answers d e f n (RegisterFor base octets rights) own same h = bound_answers (most_octets false) regions.own_next_stag base (length octets) d e f n own same h
+stream_answers d e f n (RegisterDrawnFor base octets rights drawn) own same h = bound_answers (most_octets false) (λ part pd. regions.own_drawn_stag part pd drawn) base (length octets) d e f n own same h
+stream_answers d e f n (RegisterOctetsFor base octets kept rights) own same h = bound_answers (most_octets kept) regions.own_next_stag base (length octets) d e f n own same h
+stream_answers d e f n (RegisterOctetsDrawnFor base octets kept rights drawn) own same h = bound_answers (most_octets kept) (λ part pd. regions.own_drawn_stag part pd drawn) base (length octets) d e f n own same h
 stream_answers d e f n (SetMulpdu size) own same h = ap (λ o. Sized (refusal_at o (λ s. stream.size_refusal size))) same
 stream_answers d e f n Private own same h = ap (λ o. Shown (answer_at o (λ s. private_in (unwrap_or o unopened).start))) same
 stream_answers d e f n Told own same h = ap (λ o. Declared (answer_at o (λ s. told_in (unwrap_or o unopened).start))) same
@@ -190,24 +190,24 @@ abbrev pub delivered : ℕ → List ℕ → StreamState → StreamState
 delivered from octets s = stream.after_deliver s from octets (delivery_of s from (length octets))
 
 -- the domain's part gets a region of the stream
-bound_alikes : (base len : ℕ) (registers : ℕ → regions.Part → regions.Part) (d : ℕ) (e f : EndpointState) (n : ℕ) → IsOwn d (stream_of e n) → stream_of e n ≡ stream_of f n → AreSeenAlike d e f
-    → AreSeenAlike d (unless (limit_refusal e n base len) e (with_table e (with_part e.table (stream_at e n).domain (registers (stream_at e n).domain (tables.part_of e.table (stream_at e n).domain)))))
-    (unless (limit_refusal f n base len) f (with_table f (with_part f.table (stream_at f n).domain (registers (stream_at f n).domain (tables.part_of f.table (stream_at f n).domain)))))
-bound_alikes base len registers d e f n own same h = subst (λ o. AreSeenAlike d (made e (stream_of e n)) (made f o)) same (go (stream_of e n) own)
+bound_alikes : (most base len : ℕ) (registers : ℕ → regions.Part → regions.Part) (d : ℕ) (e f : EndpointState) (n : ℕ) → IsOwn d (stream_of e n) → stream_of e n ≡ stream_of f n → AreSeenAlike d e f
+    → AreSeenAlike d (unless (limit_refusal_within most e n base len) e (with_table e (with_part e.table (stream_at e n).domain (registers (stream_at e n).domain (tables.part_of e.table (stream_at e n).domain)))))
+    (unless (limit_refusal_within most f n base len) f (with_table f (with_part f.table (stream_at f n).domain (registers (stream_at f n).domain (tables.part_of f.table (stream_at f n).domain)))))
+bound_alikes most base len registers d e f n own same h = subst (λ o. AreSeenAlike d (made e (stream_of e n)) (made f o)) same (go (stream_of e n) own)
   where
     told : RegisterRefusal → CallRefusal LimitRefusal
     told refusal = Refused (limits.Refused refusal)
 
     made : EndpointState → Option StreamState → EndpointState
     made x o =
-        unless (option_or (refusal_at o (λ s. if ended s then Some limits.Ended else None)) (option_map told (regions.own_register_refusal (tables.part_of x.table (unwrap_or o unopened).domain) base len))) x
+        unless (option_or (refusal_at o (λ s. if ended s then Some limits.Ended else None)) (option_map told (regions.own_register_refusal_within most (tables.part_of x.table (unwrap_or o unopened).domain) base len))) x
         (with_table x (with_part x.table (unwrap_or o unopened).domain (registers (unwrap_or o unopened).domain (tables.part_of x.table (unwrap_or o unopened).domain))))
 
     at_domain : (d : ℕ) → AreSeenAlike d e f → (b : Bool)
-        → AreSeenAlike d (unless (option_or (option_map Refused (if b then Some limits.Ended else None)) (option_map told (regions.own_register_refusal (tables.part_of e.table d) base len))) e (with_table e (with_part e.table d (registers d (tables.part_of e.table d)))))
-        (unless (option_or (option_map Refused (if b then Some limits.Ended else None)) (option_map told (regions.own_register_refusal (tables.part_of f.table d) base len))) f (with_table f (with_part f.table d (registers d (tables.part_of f.table d)))))
+        → AreSeenAlike d (unless (option_or (option_map Refused (if b then Some limits.Ended else None)) (option_map told (regions.own_register_refusal_within most (tables.part_of e.table d) base len))) e (with_table e (with_part e.table d (registers d (tables.part_of e.table d)))))
+        (unless (option_or (option_map Refused (if b then Some limits.Ended else None)) (option_map told (regions.own_register_refusal_within most (tables.part_of f.table d) base len))) f (with_table f (with_part f.table d (registers d (tables.part_of f.table d)))))
     at_domain d h true = h
-    at_domain d h false = region_alike (λ part. option_map told (regions.own_register_refusal part base len)) (registers d) d e f h
+    at_domain d h false = region_alike (λ part. option_map told (regions.own_register_refusal_within most part base len)) (registers d) d e f h
 
     go : (o : Option StreamState) → IsOwn d o → AreSeenAlike d (made e o) (made f o)
     go None own = h
@@ -240,13 +240,13 @@ stream_alikes d e f n Close own same h = refusing_alike rest_refusal (λ s e. cl
     (alike-own d s.domain e.table f.table (λ part. regions.own_retired part s.number) h.table)
     (closes_alike d (with_streams e (set e.streams n None)) (with_streams f (set f.streams n None)) n s.domain
     (put_alike d e f (set e.streams n None) (set f.streams n None) n None None (set_is e.streams n None (within e.streams n s at_e)) (set_is f.streams n None (within f.streams n s at_f)) refl h)))
-stream_alikes d e f n (RegisterFor base octets rights) own same h = bound_alikes base (length octets) (λ pd part. regions.own_registered part (bound_region n base octets rights)) d e f n own same h
+stream_alikes d e f n (RegisterFor base octets rights) own same h = bound_alikes (most_octets false) base (length octets) (λ pd part. regions.own_registered part (bound_region n base octets rights)) d e f n own same h
 stream_alikes d e f n (RegisterDrawnFor base octets rights drawn) own same h =
-    bound_alikes base (length octets) (λ pd part. regions.own_registered_at part (regions.own_drawn_stag part pd drawn) (bound_region n base octets rights)) d e f n own same h
+    bound_alikes (most_octets false) base (length octets) (λ pd part. regions.own_registered_at part (regions.own_drawn_stag part pd drawn) (bound_region n base octets rights)) d e f n own same h
 stream_alikes d e f n (RegisterOctetsFor base octets kept rights) own same h =
-    bound_alikes base (length octets) (λ pd part. regions.own_registered part (region_in base octets kept rights (Some n))) d e f n own same h
+    bound_alikes (most_octets kept) base (length octets) (λ pd part. regions.own_registered part (region_in base octets kept rights (Some n))) d e f n own same h
 stream_alikes d e f n (RegisterOctetsDrawnFor base octets kept rights drawn) own same h =
-    bound_alikes base (length octets) (λ pd part. regions.own_registered_at part (regions.own_drawn_stag part pd drawn) (region_in base octets kept rights (Some n))) d e f n own same h
+    bound_alikes (most_octets kept) base (length octets) (λ pd part. regions.own_registered_at part (regions.own_drawn_stag part pd drawn) (region_in base octets kept rights (Some n))) d e f n own same h
 stream_alikes d e f n (SetMulpdu size) own same h =
     refusing_alike (λ s. stream.size_refusal size) (λ s e. with_stream e n (stream.with_mulpdu s size)) d e f n same h (λ s at_e at_f. changed_alike d e f n s (stream.with_mulpdu s size) (stream.with_mulpdu s size) at_e at_f refl h)
 stream_alikes d e f n Private own same h = h
@@ -308,12 +308,12 @@ within_leaves d e n share IsNew s is own = go (nat_lt (bound_buffers s) share)
     go true = worked_leaves d e n IsNew s is own
     go false = worked_alone_leaves d e n IsNew s is own
 
-bound_leaves : (base len : ℕ) (registers : ℕ → regions.Part → regions.Part) (d : ℕ) (e : EndpointState) (n : ℕ) (IsNew : ℕ → ℕ → Type 0) → IsOwn d (stream_of e n)
-    → Leaves d e (unless (limit_refusal e n base len) e (with_table e (with_part e.table (stream_at e n).domain (registers (stream_at e n).domain (tables.part_of e.table (stream_at e n).domain))))) IsNew
-bound_leaves base len registers d e n IsNew own = go (stream_of e n) own
+bound_leaves : (most base len : ℕ) (registers : ℕ → regions.Part → regions.Part) (d : ℕ) (e : EndpointState) (n : ℕ) (IsNew : ℕ → ℕ → Type 0) → IsOwn d (stream_of e n)
+    → Leaves d e (unless (limit_refusal_within most e n base len) e (with_table e (with_part e.table (stream_at e n).domain (registers (stream_at e n).domain (tables.part_of e.table (stream_at e n).domain))))) IsNew
+bound_leaves most base len registers d e n IsNew own = go (stream_of e n) own
   where
     refused : Option StreamState → Option (CallRefusal LimitRefusal)
-    refused o = option_or (refusal_at o (λ s. if ended s then Some limits.Ended else None)) (option_map (λ refusal. Refused (limits.Refused refusal)) (regions.own_register_refusal (tables.part_of e.table (unwrap_or o unopened).domain) base len))
+    refused o = option_or (refusal_at o (λ s. if ended s then Some limits.Ended else None)) (option_map (λ refusal. Refused (limits.Refused refusal)) (regions.own_register_refusal_within most (tables.part_of e.table (unwrap_or o unopened).domain) base len))
 
     made : ℕ → EndpointState
     made pd = with_table e (with_part e.table pd (registers pd (tables.part_of e.table pd)))
@@ -354,12 +354,12 @@ stream_leaves d e n Close IsNew own = refusing_leaves rest_refusal (closes e n) 
       owners = put.owners;
       ended = put.ended;
     })
-stream_leaves d e n (RegisterFor base octets rights) IsNew own = bound_leaves base (length octets) (λ pd part. regions.own_registered part (bound_region n base octets rights)) d e n IsNew own.0
+stream_leaves d e n (RegisterFor base octets rights) IsNew own = bound_leaves (most_octets false) base (length octets) (λ pd part. regions.own_registered part (bound_region n base octets rights)) d e n IsNew own.0
 stream_leaves d e n (RegisterDrawnFor base octets rights drawn) IsNew own =
-    bound_leaves base (length octets) (λ pd part. regions.own_registered_at part (regions.own_drawn_stag part pd drawn) (bound_region n base octets rights)) d e n IsNew own.0
-stream_leaves d e n (RegisterOctetsFor base octets kept rights) IsNew own = bound_leaves base (length octets) (λ pd part. regions.own_registered part (region_in base octets kept rights (Some n))) d e n IsNew own.0
+    bound_leaves (most_octets false) base (length octets) (λ pd part. regions.own_registered_at part (regions.own_drawn_stag part pd drawn) (bound_region n base octets rights)) d e n IsNew own.0
+stream_leaves d e n (RegisterOctetsFor base octets kept rights) IsNew own = bound_leaves (most_octets kept) base (length octets) (λ pd part. regions.own_registered part (region_in base octets kept rights (Some n))) d e n IsNew own.0
 stream_leaves d e n (RegisterOctetsDrawnFor base octets kept rights drawn) IsNew own =
-    bound_leaves base (length octets) (λ pd part. regions.own_registered_at part (regions.own_drawn_stag part pd drawn) (region_in base octets kept rights (Some n))) d e n IsNew own.0
+    bound_leaves (most_octets kept) base (length octets) (λ pd part. regions.own_registered_at part (regions.own_drawn_stag part pd drawn) (region_in base octets kept rights (Some n))) d e n IsNew own.0
 stream_leaves d e n Private IsNew own = leaves-all d e IsNew
 stream_leaves d e n Told IsNew own = leaves-all d e IsNew
 stream_leaves d e n PeerOptions IsNew own = leaves-all d e IsNew
@@ -448,15 +448,15 @@ nexts_alike : {R : Type 0} (q : Option R) (d : ℕ) (e f : EndpointState) (n : �
 nexts_alike q d e f n x h =
     unless_alike d e f (with_next e n x) (with_next f n x) q h (put_alike d e f (put_at e.streams n x) (put_at f.streams n x) n (Some x) (Some x) (put_is e.streams n x) (put_is f.streams n x) refl h)
 
-next_leaves : {R : Type 0} (q : Option R) (d : ℕ) (e : EndpointState) (n : ℕ) (x : StreamState) (IsNew : ℕ → ℕ → Type 0) → x.domain ≡ d → IsOwn d (stream_of e n) → IsNew n x.domain → Leaves d e (unless q e (with_next e n x)) IsNew
-next_leaves None d e n x IsNew here own is_new = leaves-put d e (put_at e.streams n x) n (Some x) IsNew (put_is e.streams n x) here own (inr is_new)
+next_leaves : {R : Type 0} (q : Option R) (d : ℕ) (e : EndpointState) (n : ℕ) (x : StreamState) (IsNew : ℕ → ℕ → Type 0) → x.domain ≡ d → (is_some q ≡ false → IsOwnNumber d e n) → IsNew n x.domain → Leaves d e (unless q e (with_next e n x)) IsNew
+next_leaves None d e n x IsNew here own is_new = leaves-put d e (put_at e.streams n x) n (Some x) IsNew (put_is e.streams n x) here (own refl).0 (inr is_new)
 next_leaves (Some refusal) d e n x IsNew here own is_new = leaves-all d e IsNew
 
 refused_leaves : {R : Type 0} (q : Option R) (d : ℕ) (e new : EndpointState) (IsNew : ℕ → ℕ → Type 0) → (q ≡ None → ⊥) → Leaves d e (unless q e new) IsNew
 refused_leaves None d e new IsNew never = absurd (never refl)
 refused_leaves (Some refusal) d e new IsNew never = leaves-all d e IsNew
 
-next_one : (d : ℕ) (e : EndpointState) (n : Option ℕ) (role : Role) (config : Config) → HasDomains e → IfSome n (IsOwnNumber d e) → OwnStep d e (OpenNext n d role config)
+next_one : (d : ℕ) (e : EndpointState) (n : Option ℕ) (role : Role) (config : Config) → HasDomains e → (is_some (next_refusal e n d role config) ≡ false → IfSome n (IsOwnNumber d e)) → OwnStep d e (OpenNext n d role config)
 next_one d e n role config all own =
     let h = seen_alone d e all in let f = alone d (part_of d e) in
     let m = unwrap_or n 0 in
@@ -465,11 +465,11 @@ next_one d e n role config all own =
     (subst (λ q. AreSeenAlike d (unless (next_refusal e n d role config) e (with_next e m x)) (unless q f (with_next f m x))) (next_alike d e f n role config h) (nexts_alike (next_refusal e n d role config) d e f m x h))
     (go n own)
   where
-    go : (n : Option ℕ) → IfSome n (IsOwnNumber d e) → Leaves d e (unless (next_refusal e n d role config) e (with_next e (unwrap_or n 0) (new_stream (unwrap_or n 0) d role config))) (λ k pd. (n ≡ Some k) × (d ≡ pd))
+    go : (n : Option ℕ) → (is_some (next_refusal e n d role config) ≡ false → IfSome n (IsOwnNumber d e)) → Leaves d e (unless (next_refusal e n d role config) e (with_next e (unwrap_or n 0) (new_stream (unwrap_or n 0) d role config))) (λ k pd. (n ≡ Some k) × (d ≡ pd))
     go None own = refused_leaves (next_refusal e None d role config) d e _ _ (never e d role config)
-    go (Some m) own = next_leaves (next_refusal e (Some m) d role config) d e m (new_stream m d role config) _ refl own.0 (refl, refl)
+    go (Some m) own = next_leaves (next_refusal e (Some m) d role config) d e m (new_stream m d role config) _ refl own (refl, refl)
 
-next_shared_one : (d : ℕ) (e : EndpointState) (n : Option ℕ) (role : Role) (config : Config) → HasDomains e → IfSome n (IsOwnNumber d e) → OwnStep d e (OpenSharedNext n d role config)
+next_shared_one : (d : ℕ) (e : EndpointState) (n : Option ℕ) (role : Role) (config : Config) → HasDomains e → (is_some (next_shared_refusal e n d role config) ≡ false → IfSome n (IsOwnNumber d e)) → OwnStep d e (OpenSharedNext n d role config)
 next_shared_one d e n role config all own =
     let h = seen_alone d e all in let f = alone d (part_of d e) in
     let m = unwrap_or n 0 in
@@ -478,9 +478,9 @@ next_shared_one d e n role config all own =
     (subst (λ q. AreSeenAlike d (unless (next_shared_refusal e n d role config) e (with_next e m x)) (unless q f (with_next f m x))) (next_shared_alike d e f n role config h) (nexts_alike (next_shared_refusal e n d role config) d e f m x h))
     (go n own)
   where
-    go : (n : Option ℕ) → IfSome n (IsOwnNumber d e) → Leaves d e (unless (next_shared_refusal e n d role config) e (with_next e (unwrap_or n 0) (new_shared (unwrap_or n 0) d role config))) (λ k pd. (n ≡ Some k) × (d ≡ pd))
+    go : (n : Option ℕ) → (is_some (next_shared_refusal e n d role config) ≡ false → IfSome n (IsOwnNumber d e)) → Leaves d e (unless (next_shared_refusal e n d role config) e (with_next e (unwrap_or n 0) (new_shared (unwrap_or n 0) d role config))) (λ k pd. (n ≡ Some k) × (d ≡ pd))
     go None own = refused_leaves (next_shared_refusal e None d role config) d e _ _ (never_shared e d role config)
-    go (Some m) own = next_leaves (next_shared_refusal e (Some m) d role config) d e m (new_shared m d role config) _ refl own.0 (refl, refl)
+    go (Some m) own = next_leaves (next_shared_refusal e (Some m) d role config) d e m (new_shared m d role config) _ refl own (refl, refl)
 
 -- ---- any call
 
@@ -502,14 +502,14 @@ concerns_one d e (RegisterDrawn pd base octets rights drawn) all here = subst (�
     (region_leaves (tables.register_refusal e.table pd base (length octets)) pd e _ _))
 concerns_one d e (RegisterOctets pd base octets kept rights) all here = subst (λ x. OwnStep x e (RegisterOctets pd base octets kept rights)) here
     (let h = seen_alone pd e all in let f = alone pd (part_of pd e) in
-    one_step pd e (RegisterOctets pd base octets kept rights) all (ap (λ part. Registered (answer_or (regions.own_register_refusal part base (length octets)) (regions.own_next_stag part pd))) h.table.part)
-    (region_alike (λ part. regions.own_register_refusal part base (length octets)) (λ part. regions.own_registered part (region_in base octets kept rights None)) pd e f h)
-    (region_leaves (tables.register_refusal e.table pd base (length octets)) pd e _ _))
+    one_step pd e (RegisterOctets pd base octets kept rights) all (ap (λ part. Registered (answer_or (regions.own_register_refusal_within (most_octets kept) part base (length octets)) (regions.own_next_stag part pd))) h.table.part)
+    (region_alike (λ part. regions.own_register_refusal_within (most_octets kept) part base (length octets)) (λ part. regions.own_registered part (region_in base octets kept rights None)) pd e f h)
+    (region_leaves (tables.register_refusal_within (most_octets kept) e.table pd base (length octets)) pd e _ _))
 concerns_one d e (RegisterOctetsDrawn pd base octets kept rights drawn) all here = subst (λ x. OwnStep x e (RegisterOctetsDrawn pd base octets kept rights drawn)) here
     (let h = seen_alone pd e all in let f = alone pd (part_of pd e) in
-    one_step pd e (RegisterOctetsDrawn pd base octets kept rights drawn) all (ap (λ part. Registered (answer_or (regions.own_register_refusal part base (length octets)) (regions.own_drawn_stag part pd drawn))) h.table.part)
-    (region_alike (λ part. regions.own_register_refusal part base (length octets)) (λ part. regions.own_registered_at part (regions.own_drawn_stag part pd drawn) (region_in base octets kept rights None)) pd e f h)
-    (region_leaves (tables.register_refusal e.table pd base (length octets)) pd e _ _))
+    one_step pd e (RegisterOctetsDrawn pd base octets kept rights drawn) all (ap (λ part. Registered (answer_or (regions.own_register_refusal_within (most_octets kept) part base (length octets)) (regions.own_drawn_stag part pd drawn))) h.table.part)
+    (region_alike (λ part. regions.own_register_refusal_within (most_octets kept) part base (length octets)) (λ part. regions.own_registered_at part (regions.own_drawn_stag part pd drawn) (region_in base octets kept rights None)) pd e f h)
+    (region_leaves (tables.register_refusal_within (most_octets kept) e.table pd base (length octets)) pd e _ _))
 concerns_one d e (Deregister stag) all here = subst (λ x. OwnStep x e (Deregister stag)) here
     (let h = seen_alone stag.domain e all in let f = alone stag.domain (part_of stag.domain e) in
     one_step stag.domain e (Deregister stag) all (ap (λ part. handed_back own_fault (regions.own_region part stag)) h.table.part)
@@ -581,8 +581,8 @@ concerns_one d e (OpenShared n pd role config) all here = subst (λ x. IsOwnNumb
     one_step pd e (OpenShared n pd role config) all (ap OpenedShared same)
     (subst (λ q. AreSeenAlike pd (unless (open_shared_refusal e n pd role config) e (with_stream e n x)) (unless q f (with_stream f n x))) same (opens_alike (open_shared_refusal e n pd role config) pd e f n x place h))
     (open_leaves (open_shared_refusal e n pd role config) pd e n x _ place all.2 refl own.0 (refl, refl))) here.1
-concerns_one d e (OpenNext n pd role config) all here = subst (λ x. IfSome n (IsOwnNumber x e) → OwnStep x e (OpenNext n pd role config)) here.0 (next_one pd e n role config all) here.1
-concerns_one d e (OpenSharedNext n pd role config) all here = subst (λ x. IfSome n (IsOwnNumber x e) → OwnStep x e (OpenSharedNext n pd role config)) here.0 (next_shared_one pd e n role config all) here.1
+concerns_one d e (OpenNext n pd role config) all here = subst (λ x. (is_some (next_refusal e n pd role config) ≡ false → IfSome n (IsOwnNumber x e)) → OwnStep x e (OpenNext n pd role config)) here.0 (next_one pd e n role config all) here.1
+concerns_one d e (OpenSharedNext n pd role config) all here = subst (λ x. (is_some (next_shared_refusal e n pd role config) ≡ false → IfSome n (IsOwnNumber x e)) → OwnStep x e (OpenSharedNext n pd role config)) here.0 (next_shared_one pd e n role config all) here.1
 concerns_one d e (AtStream n call) all own =
     let h = seen_alone d e all in let f = alone d (part_of d e) in
     let same = stream_alike d e f n own.0 (alone_own d e n) h in

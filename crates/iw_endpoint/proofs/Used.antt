@@ -6,7 +6,8 @@ use Rattle.std.proofs.lemmas.Bool.{cases_eq, cases_lt, false≢true}
 use Rattle.std.proofs.lemmas.Option.{none-some}
 use Rattle.std.proofs.lemmas.List.{get_or_past, get_or-set_same, get_or-set_other, length-set, length-replicate}
 use Rattle.iw_memory.specs.Forms.{own_refusal, kept_refusal}
-use Rattle.iw_memory.specs.Table.{Table, is_added, register_refusal}
+use Rattle.iw_memory.specs.Region.{most_octets}
+use Rattle.iw_memory.specs.Table.{Table, is_added, register_refusal, register_refusal_within}
 use Rattle.iw_stream.specs.declared.answer.OpenRefusal.TheVariants.{NumberTaken, BadNumber, NoDomain}
 use Rattle.iw_stream.specs.declared.answer.Role.{Role}
 use Rattle.iw_startup.specs.declared.config.Config.{Config}
@@ -15,7 +16,7 @@ use Rattle.iw_stream.specs.Stream as stream
 use Rattle.iw_stream.specs.Stream.{StreamState, delivery_of}
 use Rattle.iw_endpoint.specs.declared.refusal.CallRefusal.TheVariants.{Refused}
 use Rattle.iw_endpoint.specs.Numbers.{put_at}
-use Rattle.iw_endpoint.specs.Endpoint.{EndpointState, Pool, fresh, no_streams, no_closed, stream_numbers, stream_of, stream_at, unopened, closed_at, is_taken, has_stream, with_pool, with_stream, with_table, with_next, with_worked, next_in, refusal_at, rest_refusal, limit_refusal, new_stream, new_shared, number_refusal, request_refusal, open_refusal, open_shared_refusal, open_shared_refusal_of, next_refusal, next_shared_refusal, domain_refusal, store_refusal, share_refusal, pool_refusal, take_refusal}
+use Rattle.iw_endpoint.specs.Endpoint.{EndpointState, Pool, fresh, no_streams, no_closed, stream_numbers, stream_of, stream_at, unopened, closed_at, is_taken, has_stream, with_pool, with_stream, with_table, with_next, with_worked, next_in, refusal_at, rest_refusal, limit_refusal, limit_refusal_within, new_stream, new_shared, number_refusal, request_refusal, open_refusal, open_shared_refusal, open_shared_refusal_of, next_refusal, next_shared_refusal, domain_refusal, store_refusal, share_refusal, pool_refusal, take_refusal}
 use Rattle.iw_endpoint.specs.Sharing.{with_worked_alone}
 use Rattle.iw_endpoint.specs.Isolation.{StreamCall, Accept, Reject, Post, PostRecv, FirstNumber, Deliver, Work, WorkWithin, Emit, BreakLink, Close, SetMulpdu, Private, Told, PeerOptions, Standing, HasDue, RegisterFor, RegisterDrawnFor, RegisterOctetsFor, RegisterOctetsDrawnFor, PeerFirst, Sent, DueLen, InOrderPoint, BoundBuffers, Limits, Call, AddDomain, Register, RegisterDrawn, RegisterOctets, RegisterOctetsDrawn, Deregister, DeregisterKept, TakeRegion, Invalidate, Store, Facts, Local, LocalMut, Open, Share, PostShared, TakeShared, OpenShared, OpenNext, OpenSharedNext, AtStream, after, after_stream, after_all, unless, if_there}
 use Rattle.iw_endpoint.specs.Used.{IsGiven, AreGiven, NumbersAreUsedOnce}
@@ -163,8 +164,8 @@ stream_uses e n BreakLink all = changing_use (λ s. with_stream e n (stream.brea
 stream_uses e n Close all = refusing_use rest_refusal (closes e n) e n (λ s is. uses_close e.streams e.closed n s.domain (within e.streams n s is) all)
 stream_uses e n (RegisterFor base octets rights) all = tables_use (limit_refusal e n base (length octets)) e _
 stream_uses e n (RegisterDrawnFor base octets rights drawn) all = tables_use (limit_refusal e n base (length octets)) e _
-stream_uses e n (RegisterOctetsFor base octets kept rights) all = tables_use (limit_refusal e n base (length octets)) e _
-stream_uses e n (RegisterOctetsDrawnFor base octets kept rights drawn) all = tables_use (limit_refusal e n base (length octets)) e _
+stream_uses e n (RegisterOctetsFor base octets kept rights) all = tables_use (limit_refusal_within (most_octets kept) e n base (length octets)) e _
+stream_uses e n (RegisterOctetsDrawnFor base octets kept rights drawn) all = tables_use (limit_refusal_within (most_octets kept) e n base (length octets)) e _
 stream_uses e n (SetMulpdu size) all = refusing_use (λ s. stream.size_refusal size) (λ s. with_stream e n (stream.with_mulpdu s size)) e n (λ s is. changed_use e n s (stream.with_mulpdu s size) is)
 stream_uses e n Private all = uses_all e.streams e.closed
 stream_uses e n Told all = uses_all e.streams e.closed
@@ -235,8 +236,8 @@ step : (e : EndpointState) (call : Call) → 64 ≤ length e.streams → length 
 step e (AddDomain pd) room all given = tables_use (domain_refusal e pd) e _
 step e (Register pd base octets rights) room all given = tables_use (register_refusal e.table pd base (length octets)) e _
 step e (RegisterDrawn pd base octets rights drawn) room all given = tables_use (register_refusal e.table pd base (length octets)) e _
-step e (RegisterOctets pd base octets kept rights) room all given = tables_use (register_refusal e.table pd base (length octets)) e _
-step e (RegisterOctetsDrawn pd base octets kept rights drawn) room all given = tables_use (register_refusal e.table pd base (length octets)) e _
+step e (RegisterOctets pd base octets kept rights) room all given = tables_use (register_refusal_within (most_octets kept) e.table pd base (length octets)) e _
+step e (RegisterOctetsDrawn pd base octets kept rights drawn) room all given = tables_use (register_refusal_within (most_octets kept) e.table pd base (length octets)) e _
 step e (Deregister stag) room all given = tables_use (own_refusal e.table stag) e _
 step e (DeregisterKept stag) room all given = tables_use (kept_refusal e.table stag) e _
 step e (TakeRegion stag) room all given = uses_all e.streams e.closed

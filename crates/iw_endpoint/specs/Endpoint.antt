@@ -7,9 +7,9 @@ use Rattle.iw_memory.specs.declared.refusal.DomainRefusal.{DomainRefusal}
 use Rattle.iw_memory.specs.declared.refusal.StoreRefusal.{StoreRefusal}
 use Rattle.iw_memory.specs.declared.region.Facts.{Facts}
 use Rattle.iw_memory.specs.declared.rights.Rights.{Rights}
-use Rattle.iw_memory.specs.Region.{facts_of, new_region, bound_region}
+use Rattle.iw_memory.specs.Region.{facts_of, new_region, bound_region, most_octets}
 use Rattle.iw_memory.specs.Table as tables
-use Rattle.iw_memory.specs.Table.{Table, empty, is_added, region_at, register_refusal, next_stag, put, retired}
+use Rattle.iw_memory.specs.Table.{Table, empty, is_added, region_at, register_refusal_within, next_stag, put, retired}
 use Rattle.iw_memory.specs.TableLending.{overwritten}
 use Rattle.iw_queues.specs.declared.request.Request.{Request}
 use Rattle.iw_ranges.specs.declared.Delivery.{Delivery}
@@ -182,10 +182,13 @@ rewritten e stag octets = with_table e (overwritten e.table stag octets)
 abbrev pub running_refusal : EndpointState → ℕ → Option (CallRefusal LimitRefusal)
 running_refusal e number = refusal_at (stream_of e number) (λ s. if ended s then Some limits.Ended else None)
 
--- the refusals of its domain come after those
+-- the refusals of its domain come after those, if a region may have `most` octets
+abbrev pub limit_refusal_within : ℕ → EndpointState → ℕ → ℕ → ℕ → Option (CallRefusal LimitRefusal)
+limit_refusal_within most e number base len =
+    option_or (running_refusal e number) (option_map (λ refusal. Refused (limits.Refused refusal)) (register_refusal_within most e.table (stream_at e number).domain base len))
+
 abbrev pub limit_refusal : EndpointState → ℕ → ℕ → ℕ → Option (CallRefusal LimitRefusal)
-limit_refusal e number base len =
-    option_or (running_refusal e number) (option_map (λ refusal. Refused (limits.Refused refusal)) (register_refusal e.table (stream_at e number).domain base len))
+limit_refusal e number base len = limit_refusal_within (most_octets false) e number base len
 
 abbrev pub limited : EndpointState → ℕ → ℕ → List ℕ → Rights → EndpointState
 limited e number base octets rights = with_table e (tables.registered e.table (stream_at e number).domain (bound_region number base octets rights))

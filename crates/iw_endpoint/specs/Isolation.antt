@@ -1,5 +1,5 @@
 -- One domain's part of an endpoint, and that no call lets a domain see or change another's.
-use Rattle.std.specs.Prelude.{◌≡◌, ◌≢◌, ◌≤◌, ◌⊎◌, ℕ, ◌==◌, List, [], ◌∷◌, length, map, filter, slice_set, unwrap_or, if◌then◌else◌, Bool, is_some, Option, Some, None, IfSome, Result, Ok, Err}
+use Rattle.std.specs.Prelude.{◌≡◌, ◌≢◌, ◌≤◌, ◌⊎◌, ℕ, ◌==◌, List, [], ◌∷◌, length, map, filter, slice_set, unwrap_or, if◌then◌else◌, Bool, false, is_some, Option, Some, None, IfSome, Result, Ok, Err}
 use Rattle.std.specs.Option.{option_map}
 use Rattle.arrayvec.specs.ArrayVec.{ArrayVec}
 use Rattle.iw_octets.specs.declared.stag.Stag.{Stag}
@@ -12,7 +12,8 @@ use Rattle.iw_memory.specs.declared.rights.Rights.{Rights}
 use Rattle.iw_memory.specs.Forms.{own_refusal, kept_refusal}
 use Rattle.iw_memory.specs.Part as slots
 use Rattle.iw_memory.specs.Table as tables
-use Rattle.iw_memory.specs.Table.{empty, with_part, region_at, register_refusal, next_stag, drawn_stag}
+use Rattle.iw_memory.specs.Region.{most_octets}
+use Rattle.iw_memory.specs.Table.{empty, with_part, region_at, register_refusal, register_refusal_within, next_stag, drawn_stag}
 use Rattle.iw_queues.specs.declared.request.Request.{Request}
 use Rattle.iw_ranges.specs.declared.Delivery.{Delivery}
 use Rattle.iw_startup.specs.declared.config.Agreed.{Agreed}
@@ -40,7 +41,7 @@ use Rattle.iw_endpoint.specs.declared.refusal.PoolRefusal.{PoolRefusal}
 use Rattle.iw_endpoint.specs.declared.refusal.ShareRefusal.{ShareRefusal}
 use Rattle.iw_endpoint.specs.declared.refusal.TakeRefusal.{TakeRefusal}
 use Rattle.iw_endpoint.specs.Numbers.{filled, trimmed}
-use Rattle.iw_endpoint.specs.Endpoint.{EndpointState, HasNumbers, Pool, closed_at, next_refusal, next_shared_refusal, opened_next, opened_shared_next, close_refusal, after_close, stream_numbers, domain_numbers, no_pools, fresh, pool_of, share_refusal, shared, pool_refusal, pooled, take_refusal, taken_at, after_take, open_shared_refusal, opened_shared, stream_of, stream_at, limit_refusal, limited, answer_at, domain_refusal, added, registered, octets_of, deregistered, invalidated, facts_at, store_refusal, stored, rewritten, open_refusal, opened, answer_refusal, agreement, accepted, rejected, post_refusal, with_request, recv_refusal, with_buffer, delivery_at, after_deliver, emission_at, emitted_at, after_emit, step_at, after_work, broken, size_refusal, with_mulpdu, private_at, told_at, options_at, standing_at, has_due, sent_at, point_at, first_refusal, with_first, first_at}
+use Rattle.iw_endpoint.specs.Endpoint.{EndpointState, HasNumbers, Pool, closed_at, next_refusal, next_shared_refusal, opened_next, opened_shared_next, close_refusal, after_close, stream_numbers, domain_numbers, no_pools, fresh, pool_of, share_refusal, shared, pool_refusal, pooled, take_refusal, taken_at, after_take, open_shared_refusal, opened_shared, stream_of, stream_at, limit_refusal, limit_refusal_within, limited, answer_at, domain_refusal, added, registered, octets_of, deregistered, invalidated, facts_at, store_refusal, stored, rewritten, open_refusal, opened, answer_refusal, agreement, accepted, rejected, post_refusal, with_request, recv_refusal, with_buffer, delivery_at, after_deliver, emission_at, emitted_at, after_emit, step_at, after_work, broken, size_refusal, with_mulpdu, private_at, told_at, options_at, standing_at, has_due, sent_at, point_at, first_refusal, with_first, first_at}
 use Rattle.iw_endpoint.specs.Drawing.{registered_drawn, limited_drawn}
 use Rattle.iw_endpoint.specs.KeptRegions.{registered_form, limited_form, drawn_form, limited_drawn_form}
 use Rattle.iw_endpoint.specs.Sharing.{bound_at, step_within, after_work_within}
@@ -168,8 +169,8 @@ stream_answer e n BreakLink = Broke (answer_at (stream_of e n) (λ s. tt))
 stream_answer e n Close = Closed (close_refusal e n)
 stream_answer e n (RegisterFor base octets rights) = Bound (answer_or (limit_refusal e n base (length octets)) (next_stag e.table (stream_at e n).domain))
 stream_answer e n (RegisterDrawnFor base octets rights drawn) = Bound (answer_or (limit_refusal e n base (length octets)) (drawn_stag e.table (stream_at e n).domain drawn))
-stream_answer e n (RegisterOctetsFor base octets kept rights) = Bound (answer_or (limit_refusal e n base (length octets)) (next_stag e.table (stream_at e n).domain))
-stream_answer e n (RegisterOctetsDrawnFor base octets kept rights drawn) = Bound (answer_or (limit_refusal e n base (length octets)) (drawn_stag e.table (stream_at e n).domain drawn))
+stream_answer e n (RegisterOctetsFor base octets kept rights) = Bound (answer_or (limit_refusal_within (most_octets kept) e n base (length octets)) (next_stag e.table (stream_at e n).domain))
+stream_answer e n (RegisterOctetsDrawnFor base octets kept rights drawn) = Bound (answer_or (limit_refusal_within (most_octets kept) e n base (length octets)) (drawn_stag e.table (stream_at e n).domain drawn))
 stream_answer e n (SetMulpdu size) = Sized (size_refusal e n size)
 stream_answer e n Private = Shown (answer_at (stream_of e n) (λ s. private_at e n))
 stream_answer e n Told = Declared (answer_at (stream_of e n) (λ s. told_at e n))
@@ -187,8 +188,8 @@ abbrev pub answer : EndpointState → Call → Answer
 answer e (AddDomain pd) = Added (domain_refusal e pd)
 answer e (Register pd base octets rights) = Registered (answer_or (register_refusal e.table pd base (length octets)) (next_stag e.table pd))
 answer e (RegisterDrawn pd base octets rights drawn) = Registered (answer_or (register_refusal e.table pd base (length octets)) (drawn_stag e.table pd drawn))
-answer e (RegisterOctets pd base octets kept rights) = Registered (answer_or (register_refusal e.table pd base (length octets)) (next_stag e.table pd))
-answer e (RegisterOctetsDrawn pd base octets kept rights drawn) = Registered (answer_or (register_refusal e.table pd base (length octets)) (drawn_stag e.table pd drawn))
+answer e (RegisterOctets pd base octets kept rights) = Registered (answer_or (register_refusal_within (most_octets kept) e.table pd base (length octets)) (next_stag e.table pd))
+answer e (RegisterOctetsDrawn pd base octets kept rights drawn) = Registered (answer_or (register_refusal_within (most_octets kept) e.table pd base (length octets)) (drawn_stag e.table pd drawn))
 answer e (Deregister stag) = Deregistered (answer_or (own_refusal e.table stag) (unwrap_or (octets_of e stag) []))
 answer e (DeregisterKept stag) = Deregistered (answer_or (kept_refusal e.table stag) (unwrap_or (octets_of e stag) []))
 answer e (TakeRegion stag) = TookRegion (octets_of e stag) (option_map (λ r. r.kept) (region_at e.table stag))
@@ -222,8 +223,8 @@ after_stream e n BreakLink = if_there (stream_of e n) e (broken e n)
 after_stream e n Close = unless (close_refusal e n) e (after_close e n)
 after_stream e n (RegisterFor base octets rights) = unless (limit_refusal e n base (length octets)) e (limited e n base octets rights)
 after_stream e n (RegisterDrawnFor base octets rights drawn) = unless (limit_refusal e n base (length octets)) e (limited_drawn e n base octets rights drawn)
-after_stream e n (RegisterOctetsFor base octets kept rights) = unless (limit_refusal e n base (length octets)) e (limited_form e n base octets kept rights)
-after_stream e n (RegisterOctetsDrawnFor base octets kept rights drawn) = unless (limit_refusal e n base (length octets)) e (limited_drawn_form e n base octets kept rights drawn)
+after_stream e n (RegisterOctetsFor base octets kept rights) = unless (limit_refusal_within (most_octets kept) e n base (length octets)) e (limited_form e n base octets kept rights)
+after_stream e n (RegisterOctetsDrawnFor base octets kept rights drawn) = unless (limit_refusal_within (most_octets kept) e n base (length octets)) e (limited_drawn_form e n base octets kept rights drawn)
 after_stream e n (SetMulpdu size) = unless (size_refusal e n size) e (with_mulpdu e n size)
 after_stream e n Private = e
 after_stream e n Told = e
@@ -241,8 +242,8 @@ abbrev pub after : EndpointState → Call → EndpointState
 after e (AddDomain pd) = unless (domain_refusal e pd) e (added e pd)
 after e (Register pd base octets rights) = unless (register_refusal e.table pd base (length octets)) e (registered e pd base octets rights)
 after e (RegisterDrawn pd base octets rights drawn) = unless (register_refusal e.table pd base (length octets)) e (registered_drawn e pd base octets rights drawn)
-after e (RegisterOctets pd base octets kept rights) = unless (register_refusal e.table pd base (length octets)) e (registered_form e pd base octets kept rights)
-after e (RegisterOctetsDrawn pd base octets kept rights drawn) = unless (register_refusal e.table pd base (length octets)) e (drawn_form e pd base octets kept rights drawn)
+after e (RegisterOctets pd base octets kept rights) = unless (register_refusal_within (most_octets kept) e.table pd base (length octets)) e (registered_form e pd base octets kept rights)
+after e (RegisterOctetsDrawn pd base octets kept rights drawn) = unless (register_refusal_within (most_octets kept) e.table pd base (length octets)) e (drawn_form e pd base octets kept rights drawn)
 after e (Deregister stag) = unless (own_refusal e.table stag) e (deregistered e stag)
 after e (DeregisterKept stag) = unless (kept_refusal e.table stag) e (deregistered e stag)
 after e (TakeRegion stag) = deregistered e stag
@@ -314,6 +315,12 @@ IsOwn d stream = IfSome stream (λ s. s.domain ≡ d)
 abbrev pub IsOwnNumber : ℕ → EndpointState → ℕ → Type 0
 IsOwnNumber d e n = IsOwn d (stream_of e n) × IfSome (closed_at e n) (λ x. x ≡ d)
 
+-- the call asks for the next number, and is refused: it opens no stream under it
+abbrev pub gives_none : EndpointState → Call → Bool
+gives_none e (OpenNext n pd role config) = is_some (next_refusal e n pd role config)
+gives_none e (OpenSharedNext n pd role config) = is_some (next_shared_refusal e n pd role config)
+gives_none e call = false
+
 -- a call concerns the domain that it names, or that of its STag, or that of the stream of its number
 abbrev pub Concerns : ℕ → EndpointState → Call → Type 0
 Concerns d e (AddDomain pd) = pd ≡ d
@@ -334,8 +341,8 @@ Concerns d e (Share pd) = pd ≡ d
 Concerns d e (PostShared pd buffer) = pd ≡ d
 Concerns d e (TakeShared pd) = pd ≡ d
 Concerns d e (OpenShared n pd role config) = (pd ≡ d) × IsOwnNumber d e n
-Concerns d e (OpenNext n pd role config) = (pd ≡ d) × IfSome n (IsOwnNumber d e)
-Concerns d e (OpenSharedNext n pd role config) = (pd ≡ d) × IfSome n (IsOwnNumber d e)
+Concerns d e (OpenNext n pd role config) = (pd ≡ d) × (gives_none e (OpenNext n pd role config) ≡ false → IfSome n (IsOwnNumber d e))
+Concerns d e (OpenSharedNext n pd role config) = (pd ≡ d) × (gives_none e (OpenSharedNext n pd role config) ≡ false → IfSome n (IsOwnNumber d e))
 Concerns d e (AtStream n call) = IsOwnNumber d e n
 
 -- there is a place for each domain, and for each number that an application picks
@@ -434,10 +441,10 @@ abbrev pub own_after_all : ℕ → Part → List Call → Part
 own_after_all d part [] = part
 own_after_all d part (call ∷ calls) = own_after_all d (own_after d part call) calls
 
--- each stream number is opened, or asked for, in one domain only
-abbrev pub OpensOwn : (ℕ → ℕ) → List Call → Type 0
-OpensOwn whose [] = Unit {0}
-OpensOwn whose (call ∷ calls) = ((n d : ℕ) → Opens n d call → whose n ≡ d) × OpensOwn whose calls
+-- each stream number that an application picks is asked for, and each other is given, in one domain only
+abbrev pub OpensOwn : (ℕ → ℕ) → EndpointState → List Call → Type 0
+OpensOwn whose e [] = Unit {0}
+OpensOwn whose e (call ∷ calls) = (gives_none e call ≡ false → (n d : ℕ) → Opens n d call → whose n ≡ d) × OpensOwn whose (after e call) calls
 
 pub record IsAlone (whose : ℕ → ℕ) (d : ℕ) (calls : List Call) : Type 0 where
   pub answers : view whose d fresh calls ≡ own_answers d (part_of d fresh) (only whose d calls)
@@ -445,4 +452,4 @@ pub record IsAlone (whose : ℕ → ℕ) (d : ℕ) (calls : List Call) : Type 0 
 
 -- after any calls to a new endpoint, each domain has the answers and the part that it would have with no other domain
 abbrev pub DomainsAreAlone : Type 0
-DomainsAreAlone = (whose : ℕ → ℕ) (calls : List Call) → OpensOwn whose calls → (d : ℕ) → IsAlone whose d calls
+DomainsAreAlone = (whose : ℕ → ℕ) (calls : List Call) → OpensOwn whose fresh calls → (d : ℕ) → IsAlone whose d calls

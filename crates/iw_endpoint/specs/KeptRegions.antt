@@ -1,11 +1,13 @@
 -- Regions of octets that are a vector's, or are in memory that a program keeps.
-use Rattle.std.specs.Prelude.{ℕ, List, Bool, Option, Some, None}
+use Rattle.std.specs.Prelude.{ℕ, List, length, Bool, Option, Some, None}
 use Rattle.iw_kept.specs.declared.octets.RegionOctets.{RegionOctets}
 use Rattle.iw_memory.specs.declared.rights.Rights.{Rights}
-use Rattle.iw_memory.specs.Region.{Region, new_region}
+use Rattle.iw_memory.specs.Region.{Region, new_region, most_octets}
 use Rattle.iw_kept.specs.Octets.{octets_of, is_kept}
 use Rattle.iw_memory.specs.Table as tables
-use Rattle.iw_endpoint.specs.Endpoint.{EndpointState, with_table, stream_at}
+use Rattle.iw_endpoint.specs.declared.refusal.CallRefusal.{CallRefusal}
+use Rattle.iw_endpoint.specs.declared.refusal.LimitRefusal.{LimitRefusal}
+use Rattle.iw_endpoint.specs.Endpoint.{EndpointState, with_table, stream_at, limit_refusal_within}
 
 -- a region of these octets as it is registered, whose memory a program keeps or not, limited to a stream or not
 abbrev pub region_in : ℕ → List ℕ → Bool → Rights → Option ℕ → Region
@@ -30,6 +32,10 @@ limited_drawn_form e number base octets kept rights drawn =
     with_table e (tables.registered_drawn e.table (stream_at e number).domain drawn (region_in base octets kept rights (Some number)))
 
 -- ---- with the octets as they are handed in
+
+-- why they are not registered for a stream
+abbrev pub limited_refusal : {A : Type 0} → EndpointState → ℕ → ℕ → RegionOctets A → Option (CallRefusal LimitRefusal)
+limited_refusal e number base octets = limit_refusal_within (most_octets (is_kept octets)) e number base (length (octets_of octets))
 
 abbrev pub registered_octets : {A : Type 0} → EndpointState → ℕ → ℕ → RegionOctets A → Rights → EndpointState
 registered_octets e pd base octets rights = registered_form e pd base (octets_of octets) (is_kept octets) rights

@@ -3,7 +3,8 @@ use Rattle.std.specs.Prelude.{ℕ, List, Bool, Option, Some, None}
 use Rattle.std.specs.Option.{option_map}
 use Rattle.iw_octets.specs.declared.stag.Stag.{Stag}
 use Rattle.iw_memory.specs.declared.rights.Rights.{Rights}
-use Rattle.iw_memory.specs.Table.{Table, register_refusal, next_stag, drawn_stag}
+use Rattle.iw_memory.specs.Region.{most_octets}
+use Rattle.iw_memory.specs.Table.{Table, register_refusal_within, next_stag, drawn_stag}
 use Rattle.iw_endpoint.specs.declared.refusal.CallRefusal.{CallRefusal}
 use Rattle.iw_endpoint.specs.declared.refusal.CallRefusal.TheVariants.{Refused}
 use Rattle.iw_endpoint.specs.declared.refusal.LimitRefusal.{LimitRefusal}
@@ -11,16 +12,17 @@ use Rattle.iw_endpoint.specs.declared.refusal.LimitRefusal.TheVariants as limits
 use Rattle.iw_endpoint.specs.declared.registration.Registration.{Registration}
 use Rattle.iw_endpoint.specs.declared.registration.Scope.{Scope}
 use Rattle.iw_endpoint.specs.declared.registration.Scope.TheVariants.{Domain, Stream}
-use Rattle.iw_endpoint.specs.Endpoint.{EndpointState, stream_at, limit_refusal}
+use Rattle.iw_endpoint.specs.Endpoint.{EndpointState, stream_at, limit_refusal_within}
 use Rattle.iw_endpoint.specs.KeptRegions.{registered_form, limited_form, drawn_form, limited_drawn_form}
 
--- why n octets are not registered for these streams
-abbrev pub refusal_within : EndpointState → Scope → ℕ → ℕ → Option (CallRefusal LimitRefusal)
-refusal_within e (Domain pd) base n = option_map (λ refusal. Refused (limits.Refused refusal)) (register_refusal e.table pd base n)
-refusal_within e (Stream number) base n = limit_refusal e number base n
+-- why n octets are not registered for these streams, if a region may have `most`
+abbrev pub refusal_within : ℕ → EndpointState → Scope → ℕ → ℕ → Option (CallRefusal LimitRefusal)
+refusal_within most e (Domain pd) base n = option_map (λ refusal. Refused (limits.Refused refusal)) (register_refusal_within most e.table pd base n)
+refusal_within most e (Stream number) base n = limit_refusal_within most e number base n
 
-abbrev pub registration_refusal : EndpointState → Registration → ℕ → Option (CallRefusal LimitRefusal)
-registration_refusal e r n = refusal_within e r.scope r.base n
+-- why n octets are not registered so, whose memory a program keeps or not
+abbrev pub registration_refusal : EndpointState → Registration → Bool → ℕ → Option (CallRefusal LimitRefusal)
+registration_refusal e r kept n = refusal_within (most_octets kept) e r.scope r.base n
 
 -- the domain of the region
 abbrev pub domain_of : EndpointState → Scope → ℕ

@@ -22,4 +22,4 @@ call_of r octets kept = call_by r.scope r.base octets kept r.rights r.drawn
 abbrev pub RegistrationsAreCalls : Type 0
 RegistrationsAreCalls =
     (e : EndpointState) (r : Registration) (octets : List ℕ) (kept : Bool)
-    → after e (call_of r octets kept) ≡ unless (registration_refusal e r (length octets)) e (registered_as e r octets kept)
+    → after e (call_of r octets kept) ≡ unless (registration_refusal e r kept (length octets)) e (registered_as e r octets kept)

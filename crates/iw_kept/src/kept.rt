@@ -45,6 +45,16 @@ impl Kept {
         Some(octets)
     }
 
+    /// The octets as a vector that frees nothing, which may have none.
+    pub fn into_octets(self) -> Vec<u8, Lodged>
+        ensures { result.items ≡ self.octets }
+    {
+        match self.into_vec() {
+            Some(octets) => octets,
+            None => Vec::new(Lodged),
+        }
+    }
+
     /// What such a vector has, for the program.
     pub fn of_vec(octets: Vec<u8, Lodged>) -> Kept
         ensures { result.octets ≡ octets.items }

@@ -32,7 +32,7 @@ use Rattle.iw_startup.specs.declared.config.Config.{Config}
 use Rattle.iw_stream.specs.declared.answer.Role.TheVariants.{Preset}
 use Rattle.iw_laws.proofs.Rooms.{or_none}
 use Rattle.iw_endpoint.specs.Endpoint.{EndpointState, Pool as PoolOf, number_refusal, request_refusal, pool_of, lent_to, share_fault, pool_fault, take_fault, taken, open_shared_refusal_of, unshared, fresh, stream_of, unopened}
-use Rattle.iw_endpoint.specs.Isolation.{HasDomains, IsOwn, IsOwnNumber, Concerns, OwnStep, OpensOwn, part_of, alone, answer_or, after, concerned}
+use Rattle.iw_endpoint.specs.Isolation.{HasDomains, IsOwn, IsOwnNumber, Concerns, OwnStep, part_of, alone, answer_or, after, concerned}
 use Rattle.iw_endpoint.proofs.Tables.{AreAlike, worked-alike, verdict-alike, early-alike, turn-alike, judged-alike, fetched-alike, octets-alike, region-alike, none_taken, undenied}
 use Rattle.iw_endpoint.proofs.Parts.{AreSeenAlike, fresh_domains, seen_alone, stream_alike, closed_alike, alone_own, alone_number}
 use Rattle.iw_endpoint.proofs.Steps.{open_alike, concerns_one}
@@ -48,7 +48,7 @@ use Rattle.iw_events.specs.declared.act.Seen.TheVariants as seen
 use Rattle.iw_events.specs.declared.act.Entry.{Entry}
 use Rattle.iw_laws.specs.Words.{Octets, acts, acts_if, config_for, deed}
 use Rattle.iw_laws.specs.Rules.{State, start, end_of, with_end, shown_of, seen_of, StreamRule, EndRule, call_made, end_after, after_entry, Follows}
-use Rattle.iw_laws.specs.Isolated.{calls_made, only_acts, AreOwn, Isolated}
+use Rattle.iw_laws.specs.Isolated.{AsksOwn, calls_made, only_acts, AreOwn, Isolated}
 use Rattle.iw_laws.proofs.Whole.{follows_split}
 use Rattle.iw_laws.proofs.Seeing.{LandsAs, LandsTagged, lands_as, early_lands}
 
@@ -248,15 +248,15 @@ abbrev AreAnswered : EndpointState → List (Act Octets) → Type 0
 AreAnswered e [] = Unit {0}
 AreAnswered e (act ∷ done) = EndRule e act × AreAnswered (after e (call_made act)) done
 
-own_from : (whose : ℕ → ℕ) (done : List (Act Octets)) (e : EndpointState) → HasDomains e → AreOwned whose e → OpensOwn whose (calls_made done) → AreAnswered e done → (d : ℕ) → AreOwn d (part_of d e) (only_acts whose d done)
+own_from : (whose : ℕ → ℕ) (done : List (Act Octets)) (e : EndpointState) → HasDomains e → AreOwned whose e → AsksOwn whose (calls_made done) → AreAnswered e done → (d : ℕ) → AreOwn d (part_of d e) (only_acts whose d done)
 own_from whose [] e all owned opens answered d = tt
 own_from whose (act ∷ done) e all owned opens answered d =
     let call = call_made act in
     let c = concerned whose call in
-    let mine = concerns whose e call owned opens.0 in
+    let mine = concerns whose e call owned (λ gives. opens.0) in
     let step = concerns_one c e call all mine in
     let those = only_acts whose d done in
-    let rest = own_from whose done (after e call) step.domains (stay_owned whose e call c owned opens.0 step) opens.1 answered.1 d in
+    let rest = own_from whose done (after e call) step.domains (stay_owned whose e call c owned (λ gives. opens.0) step) opens.1 answered.1 d in
     elim (eqb_tells c d) [
       | inl same ↦
           let own = subst (λ x. OwnStep x e call) same.1 step in

@@ -35,7 +35,6 @@ use Rattle.iw_stream.specs.Judging.{Standing, verdict, fault_or, or_else, turn_o
 use Rattle.iw_stream.specs.Starting.{AtOnce, plain, awaits_frame, expecting}
 use Rattle.iw_endpoint.specs.declared.refusal.TakeRefusal.{TakeRefusal}
 use Rattle.iw_endpoint.specs.Endpoint.{no_streams, no_closed, no_pools}
-use Rattle.iw_endpoint.specs.Isolation.{OpensOwn}
 use Rattle.iw_events.specs.declared.call.End.{End}
 use Rattle.iw_events.specs.declared.call.End.TheVariants.{A, B}
 use Rattle.iw_events.specs.declared.act.Act.{Act}
@@ -46,7 +45,7 @@ use Rattle.iw_laws.specs.Turns.{Story, story, pooling, pool_by, pool_back, taken
 use Rattle.iw_laws.specs.Turns as turns
 use Rattle.iw_laws.specs.Rest.{Over, AwaitsFrame, AwaitsAnswer, NoFrame}
 use Rattle.iw_laws.specs.Once.{Span, judged_span, spans_placed, span_of}
-use Rattle.iw_laws.specs.Isolated.{calls_made}
+use Rattle.iw_laws.specs.Isolated.{AsksOwn, calls_made}
 use Rattle.iw_laws.specs.Safe.{Fits, IsHonest}
 use Rattle.iw_laws.specs.WrongRuns.{Run, b, stag, works, send_frame, buffers_one}
 use Rattle.iw_laws.specs.PoolRuns.{pools, binds_youngest, binds_taken, binds_foreign, binds_unshared, binds_elsewhere, binds_past, binds_later, buffers_last, buffers_second, part_frame, takes_oldest, leaves_oldest, takes_youngest, takes_youngest_back, takes_none, binds_tried, binds_faulted, binds_twice, takes_received, pools_received, drops_unbound, shares_again, shares_twice, pools_unshared, full_pool, opens_unshared, opens_shared, opens_again, takes_number, idles_unopened, posts_own, owns_buffers, names_end, names_end_first, takes_foreign, denies, denies_pooled, denies_short, rests_pooled, tries_pooled, asks_pool_again, places_again, receives_other, hands_out_other, receives_others, receives_uncovered, returns_unbound, keeps_bound, returns_later_first}
@@ -159,7 +158,7 @@ pub refuses_end_first : RefusesEndFirst
 unfolding acts stream_acts openings ended story pooling
 refuses_end_first h = never_both refl refl (h (take 4 names_end_first) (b names_end) [] refl)
 
-foreign_own : OpensOwn (λ n. 0) (calls_made (acts B takes_foreign))
+foreign_own : AsksOwn (λ n. 0) (calls_made (acts B takes_foreign))
 unfolding acts
 foreign_own = (λ n d h. absurd h, (λ n d h. absurd h, (λ n d h. absurd h, (λ n d h. absurd h, (λ n d h. absurd h, (λ n d h. absurd h, tt))))))
 

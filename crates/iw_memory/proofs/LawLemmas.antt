@@ -11,7 +11,7 @@ use Rattle.iw_memory.specs.declared.refusal.RegisterRefusal.TheVariants.{NoDomai
 use Rattle.iw_memory.specs.Region.{Region, facts_of, region_with}
 use Rattle.iw_memory.specs.Part.{SlotState, unused, under_key, own_slots, free_slot, free_from, drawn_key, up_to, with_room}
 use Rattle.iw_memory.specs.Inside.{IsVacant}
-use Rattle.iw_memory.specs.Table.{Table, is_added, register_refusal, part_of, with_part, slots_of, region_at, with_slot, with_region, put, deregistered, registered, registered_at, next_stag, drawn_stag}
+use Rattle.iw_memory.specs.Table.{Table, is_added, register_refusal_within, part_of, with_part, slots_of, region_at, with_slot, with_region, put, deregistered, registered, registered_at, next_stag, drawn_stag}
 use Rattle.iw_memory.specs.Laws.{ChangesOneStag, PutsAt, RegistersAt, DrawsAt, WasLast, DrawsAnother, IsOpen, IsDrawn}
 use Rattle.iw_memory.proofs.ListLemmas.{get_or-push_default, get_or-padded, length-overlay}
 use Rattle.iw_memory.proofs.SlotLemmas.{first_within}
@@ -198,22 +198,22 @@ registered-at_next table pd region =
     ap (λ slots. with_part table pd (Some (set slots i (record { key = (get_or (slots_of table pd) i unused).key; region = Some region })))) (next_room (slots_of table pd))
 
 -- a domain in which nothing is refused was added
-added_if_none : (table : Table) (pd base len : ℕ) → None ≡ register_refusal table pd base len → is_added table pd ≡ true
-added_if_none table pd base len none = go (is_added table pd) refl
+added_if_none : (most : ℕ) (table : Table) (pd base len : ℕ) → None ≡ register_refusal_within most table pd base len → is_added table pd ≡ true
+added_if_none most table pd base len none = go (is_added table pd) refl
   where
     go : (b : Bool) → is_added table pd ≡ b → b ≡ true
     go true e = refl
-    go false e = absurd (none-some NoDomain (none ∙ register_refusal-absent table pd base len e))
+    go false e = absurd (none-some NoDomain (none ∙ register_refusal-absent most table pd base len e))
 
 -- the slots of the STags that are given out have no region
-pub next-vacant : (table : Table) (pd base len : ℕ) (stag : Stag) → None ≡ register_refusal table pd base len → free_slot (slots_of table pd) < 1024 → stag ≡ next_stag table pd → IsVacant table stag
-next-vacant table pd base len stag none some is =
-    subst (λ (s : Stag). IsVacant table s) (sym is) (record { added = added_if_none table pd base len none; small = some; none = free_none (slots_of table pd) })
+pub next-vacant : (most : ℕ) (table : Table) (pd base len : ℕ) (stag : Stag) → None ≡ register_refusal_within most table pd base len → free_slot (slots_of table pd) < 1024 → stag ≡ next_stag table pd → IsVacant table stag
+next-vacant most table pd base len stag none some is =
+    subst (λ (s : Stag). IsVacant table s) (sym is) (record { added = added_if_none most table pd base len none; small = some; none = free_none (slots_of table pd) })
 
-pub drawn-vacant : (table : Table) (pd base len drawn : ℕ) (stag : Stag) → None ≡ register_refusal table pd base len → free_slot (slots_of table pd) < 1024 → stag ≡ drawn_stag table pd drawn → IsVacant table stag
-drawn-vacant table pd base len drawn stag none some is =
+pub drawn-vacant : (most : ℕ) (table : Table) (pd base len drawn : ℕ) (stag : Stag) → None ≡ register_refusal_within most table pd base len → free_slot (slots_of table pd) < 1024 → stag ≡ drawn_stag table pd drawn → IsVacant table stag
+drawn-vacant most table pd base len drawn stag none some is =
     subst (λ (s : Stag). IsVacant table s) (sym is) (record {
-      added = added_if_none table pd base len none;
+      added = added_if_none most table pd base len none;
       small = free_from-within (slots_of table pd) (drawn % 1024) some;
       none = free_from-none (slots_of table pd) (drawn % 1024);
     })

@@ -18,7 +18,7 @@ use Rattle.iw_memory.specs.declared.refusal.RegisterRefusal.TheVariants.{NoDomai
 use Rattle.iw_memory.specs.Region.{Region, Spans, IsWithinLimits, overlay, region_with, octets_from, made_invalid}
 use Rattle.iw_memory.specs.Held.{Held}
 use Rattle.iw_memory.specs.Part.{SlotState, unused, under_key, own_slot, free_slot, free_from, up_to}
-use Rattle.iw_memory.specs.Table.{Table, empty, part_of, with_part, slots_of, region_at, with_slot, with_region, put, domain_refusal, register_refusal, is_added, added, next_stag, drawn_stag, registered_at, deregistered, invalidated, octets_at}
+use Rattle.iw_memory.specs.Table.{Table, empty, part_of, with_part, slots_of, region_at, with_slot, with_region, put, domain_refusal, register_refusal_within, is_added, added, next_stag, drawn_stag, registered_at, deregistered, invalidated, octets_at}
 use Rattle.iw_memory.specs.Laws.{HoldsLimits, IsWithin}
 use Rattle.iw_memory.specs.Inside.{Slots, no_places, table_of, states_of, state_of, region_in, slots_in, link_at, link_of, free, IsHeldFor, IsSound, AreShared, Keeps, SetsSlots, is_free, first_free, with_room_at}
 use Rattle.iw_memory.proofs.ListLemmas.{map-replicate, map-same, map-set_others, set-set}
@@ -462,18 +462,19 @@ place_known {domains} {regions} sound d slot e =
     (is_added-table_of domains regions d ∙ known.0, free_slot-table_of sound d ∙ known.1)
 
 -- the refusals behind the first
-abbrev pub refusal_at : ℕ → ℕ → ℕ → Option RegisterRefusal
-refusal_at slot base len =
+abbrev pub refusal_at : ℕ → ℕ → ℕ → ℕ → Option RegisterRefusal
+refusal_at most slot base len =
     if nat_le 1024 slot then Some DomainFull else
-    (if nat_lt 16777216 len then Some TooLong else
+    (if nat_lt most len then Some TooLong else
     (if nat_lt (2 ^ 64) (base + len) then Some BaseWrap else None))
 
-pub register_refusal-known : (table : Table) (d base len slot : ℕ) → is_added table d ≡ true → free_slot (slots_of table d) ≡ slot → register_refusal table d base len ≡ refusal_at slot base len
-register_refusal-known table d base len slot there first =
-    ap (λ b. if not b then Some NoDomain else refusal_at (free_slot (slots_of table d)) base len) there ∙ ap (λ i. refusal_at i base len) first
+pub register_refusal-known : (most : ℕ) (table : Table) (d base len slot : ℕ) → is_added table d ≡ true → free_slot (slots_of table d) ≡ slot
+    → register_refusal_within most table d base len ≡ refusal_at most slot base len
+register_refusal-known most table d base len slot there first =
+    ap (λ b. if not b then Some NoDomain else refusal_at most (free_slot (slots_of table d)) base len) there ∙ ap (λ i. refusal_at most i base len) first
 
-pub register_refusal-absent : (table : Table) (d base len : ℕ) → is_added table d ≡ false → register_refusal table d base len ≡ Some NoDomain
-register_refusal-absent table d base len absent = ap (λ b. if not b then Some NoDomain else refusal_at (free_slot (slots_of table d)) base len) absent
+pub register_refusal-absent : (most : ℕ) (table : Table) (d base len : ℕ) → is_added table d ≡ false → register_refusal_within most table d base len ≡ Some NoDomain
+register_refusal-absent most table d base len absent = ap (λ b. if not b then Some NoDomain else refusal_at most (free_slot (slots_of table d)) base len) absent
 
 -- the links stay
 pub IsSound-same_links : {old new : Slots} {regions : Slab Held} → IsSound old regions → (d : ℕ) (items : List Slot) → IsTrue (is_some (get_or old d None)) → SetsSlots old new d items → length items ≤ 1024 → ((m : ℕ) → get_or items m free ≡ get_or (slots_in old d) m free) → IsSound new regions

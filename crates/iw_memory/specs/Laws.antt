@@ -5,8 +5,8 @@ use Rattle.iw_octets.specs.declared.stag.Stag.{Stag}
 use Rattle.iw_memory.specs.declared.peer.Peer.{Peer}
 use Rattle.iw_memory.specs.declared.rights.Right.{Right}
 use Rattle.iw_memory.specs.Region.{Region, facts_of, in_domain, is_bound_to, is_in_scope, grants, Spans, region_with, made_invalid, retired_region, IsWithinLimits}
-use Rattle.iw_memory.specs.Part.{Part, unused, own_drawn_stag, own_registered_at, own_denial_for, own_invalidate_denial_for, own_domain_refusal, own_store_refusal, own_register_refusal, own_next_stag, own_region, own_changed, own_put, own_invalidated, own_retired, own_deregistered, own_added, own_registered}
-use Rattle.iw_memory.specs.Table.{Table, part_of, slots_of, region_at, octets_at, denial_for, invalidate_denial_for, domain_refusal, store_refusal, register_refusal, next_stag, with_region, put, invalidated, retired, deregistered, added, registered, drawn_stag, registered_at, registered_drawn}
+use Rattle.iw_memory.specs.Part.{Part, unused, own_drawn_stag, own_registered_at, own_denial_for, own_invalidate_denial_for, own_domain_refusal, own_store_refusal, own_register_refusal_within, own_next_stag, own_region, own_changed, own_put, own_invalidated, own_retired, own_deregistered, own_added, own_registered}
+use Rattle.iw_memory.specs.Table.{Table, part_of, slots_of, region_at, octets_at, denial_for, invalidate_denial_for, domain_refusal, store_refusal, register_refusal_within, next_stag, with_region, put, invalidated, retired, deregistered, added, registered, drawn_stag, registered_at, registered_drawn}
 
 -- a region serves n octets from `to` on for this right to this stream of its domain
 pub record Serves (r : Region) (stream : Option ℕ) (to n : ℕ) (right : Right) : Type 0 where
@@ -144,7 +144,7 @@ pub record OwnSteps (table : Table) (domain : ℕ) : Type 0 where
   pub region : (stag : Stag) → stag.domain ≡ domain → region_at table stag ≡ own_region (part_of table domain) stag
   pub store_refused : (stag : Stag) (to n : ℕ) → stag.domain ≡ domain → store_refusal table stag to n ≡ own_store_refusal (part_of table domain) stag to n
   pub add_refused : domain_refusal table domain ≡ own_domain_refusal (part_of table domain) domain
-  pub register_refused : (base len : ℕ) → register_refusal table domain base len ≡ own_register_refusal (part_of table domain) base len
+  pub register_refused : (most base len : ℕ) → register_refusal_within most table domain base len ≡ own_register_refusal_within most (part_of table domain) base len
   pub numbered : next_stag table domain ≡ own_next_stag (part_of table domain) domain
   pub puts : (stag : Stag) (to : ℕ) (octets : List ℕ) → stag.domain ≡ domain → SetsPart table (put table stag to octets) domain (own_put (part_of table domain) stag to octets)
   pub changes : (stag : Stag) (change : Region → Region) → stag.domain ≡ domain → SetsPart table (with_region table stag change) domain (own_changed (part_of table domain) stag change)

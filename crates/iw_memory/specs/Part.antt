@@ -1,5 +1,5 @@
 -- What one domain has of the memory. Each call is defined on this part alone, so no domain sees or changes what is another's.
-use Rattle.std.specs.Prelude.{ℕ, ◌+◌, ◌-◌, ◌/◌, ◌^◌, ◌%◌, ◌==◌, ◌&&◌, nat_lt, nat_le, not, is_some, is_none, List, [], ◌∷◌, ◌++◌, length, map, drop, replicate, Option, Some, None, slice_index_or, slice_set, unwrap_or, if◌then◌else◌}
+use Rattle.std.specs.Prelude.{ℕ, ◌+◌, ◌-◌, ◌/◌, ◌^◌, ◌%◌, ◌==◌, ◌&&◌, nat_lt, nat_le, not, is_some, is_none, List, [], ◌∷◌, ◌++◌, length, map, drop, replicate, false, Option, Some, None, slice_index_or, slice_set, unwrap_or, if◌then◌else◌}
 use Rattle.std.specs.Option.{option_map, option_map_or}
 use Rattle.std.specs.List.{position_or_len}
 use Rattle.iw_octets.specs.declared.stag.Stag.{Stag}
@@ -15,7 +15,7 @@ use Rattle.iw_memory.specs.declared.refusal.StoreRefusal.{StoreRefusal}
 use Rattle.iw_memory.specs.declared.refusal.StoreRefusal.TheVariants.{NoRegion, Outside}
 use Rattle.iw_memory.specs.declared.refusal.InvalidateDeny.{InvalidateDeny}
 use Rattle.iw_memory.specs.declared.refusal.InvalidateDeny.TheVariants.{NotAssociated as NotOwn, Invalid as NotValid, NotAllowed}
-use Rattle.iw_memory.specs.Region.{Region, in_domain, is_in_scope, region_denial_for, region_with, made_invalid, retired_region}
+use Rattle.iw_memory.specs.Region.{Region, most_octets, in_domain, is_in_scope, region_denial_for, region_with, made_invalid, retired_region}
 
 -- a slot of a domain: its region, if it holds one, and the key of that region, or else of its next one
 pub record SlotState : Type 0 where
@@ -78,12 +78,16 @@ own_domain_refusal part pd = if pd == 0 then Some BadDomain else (if is_some par
 abbrev pub free_slot : List SlotState → ℕ
 free_slot slots = position_or_len (λ s. is_none s.region) slots
 
-abbrev pub own_register_refusal : Part → ℕ → ℕ → Option RegisterRefusal
-own_register_refusal part base len =
+-- why a region of `len` octets is not registered, if it may have `most`
+abbrev pub own_register_refusal_within : ℕ → Part → ℕ → ℕ → Option RegisterRefusal
+own_register_refusal_within most part base len =
     if not (is_some part) then Some NoDomain else
     (if nat_le 1024 (free_slot (own_slots part)) then Some DomainFull else
-    (if nat_lt 16777216 len then Some TooLong else
+    (if nat_lt most len then Some TooLong else
     (if nat_lt (2 ^ 64) (base + len) then Some BaseWrap else None)))
+
+abbrev pub own_register_refusal : Part → ℕ → ℕ → Option RegisterRefusal
+own_register_refusal part base len = own_register_refusal_within (most_octets false) part base len
 
 -- the STag that the next region of the domain, whose number is pd, gets
 abbrev pub own_next_stag : Part → ℕ → Stag

@@ -85,7 +85,11 @@ region_denial_for r stream to n right = if not (is_in_scope r.bound stream) then
 abbrev pub retired_region : Option ℕ → Region → Region
 retired_region stream r = if is_bound_to r.bound stream then made_invalid r else r
 
+-- how many octets a region has at most: in memory that a program keeps, or in a vector
+abbrev pub most_octets : Bool → ℕ
+most_octets kept = if kept then 2 ^ 46 else 16777216
+
 -- how many octets a region may have, and where it may end
 pub record IsWithinLimits (base len : ℕ) : Type 0 where
-  pub small : len ≤ 16777216
+  pub small : len ≤ 2 ^ 46
   pub no_wrap : base + len ≤ 2 ^ 64

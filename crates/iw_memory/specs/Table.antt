@@ -10,7 +10,7 @@ use Rattle.iw_memory.specs.declared.refusal.RegisterRefusal.{RegisterRefusal}
 use Rattle.iw_memory.specs.declared.refusal.StoreRefusal.{StoreRefusal}
 use Rattle.iw_memory.specs.declared.refusal.InvalidateDeny.{InvalidateDeny}
 use Rattle.iw_memory.specs.Region.{Region, in_domain, octets_from}
-use Rattle.iw_memory.specs.Part.{Part, SlotState, own_slots, own_region, own_denial_for, own_invalidate_denial_for, own_domain_refusal, own_register_refusal, own_next_stag, own_store_refusal, own_slot, own_changed, own_put, own_invalidated, own_retired, own_deregistered, own_added, own_registered, own_drawn_stag, own_registered_at}
+use Rattle.iw_memory.specs.Part.{Part, SlotState, own_slots, own_region, own_denial_for, own_invalidate_denial_for, own_domain_refusal, own_register_refusal, own_register_refusal_within, own_next_stag, own_store_refusal, own_slot, own_changed, own_put, own_invalidated, own_retired, own_deregistered, own_added, own_registered, own_drawn_stag, own_registered_at}
 
 -- at each domain number, that domain's part
 abbrev pub Table : Type 0
@@ -56,6 +56,9 @@ invalidate_denial table pd stag = invalidate_denial_for table (in_domain pd) sta
 
 abbrev pub domain_refusal : Table → ℕ → Option DomainRefusal
 domain_refusal table pd = own_domain_refusal (part_of table pd) pd
+
+abbrev pub register_refusal_within : ℕ → Table → ℕ → ℕ → ℕ → Option RegisterRefusal
+register_refusal_within most table pd base len = own_register_refusal_within most (part_of table pd) base len
 
 abbrev pub register_refusal : Table → ℕ → ℕ → ℕ → Option RegisterRefusal
 register_refusal table pd base len = own_register_refusal (part_of table pd) base len

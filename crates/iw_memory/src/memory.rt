@@ -1,13 +1,14 @@
 //! The registered regions of an endpoint, by STag.
-ghost use Rattle.std.specs.Prelude.{◌≡◌, ◌+◌, ◌-◌, ◌<◌, ◌≤◌, [], true, length, vec_len};
+ghost use Rattle.std.specs.Prelude.{◌≡◌, ◌+◌, ◌-◌, ◌<◌, ◌≤◌, ◌^◌, [], true, length, vec_len};
 ghost use Rattle.std.specs.Prelude.{None, Some, option_copied, is_some, IsSome, IfSome, IfNone, IsTrue, if◌then◌else◌};
 ghost use Rattle.std.specs.Prelude.{is_ok, IfOk, IfErr, IsErr, OnOk, OnErr};
 ghost use Rattle.std.specs.Result.{result_err, result_ok};
 ghost use Rattle.std.specs.Option.{option_map};
 ghost use Rattle.std.specs.Borrow.{sem};
 ghost use Rattle.iw_kept.specs.Octets.{octets_of, is_kept};
-ghost use Rattle.iw_memory.specs.Forms.{region_of, own_refusal, kept_refusal};
+ghost use Rattle.iw_memory.specs.Forms.{region_of, octets_refusal, own_refusal, kept_refusal};
 ghost use Rattle.iw_memory.specs.Inside.{IsSound, AreShared, link_of, table_of};
+ghost use Rattle.iw_memory.specs.Region.{most_octets};
 ghost use Rattle.iw_memory.specs.Table.{region_at, deregistered};
 
 use crate::domain_slots::MAX_SLOTS;
@@ -24,6 +25,9 @@ use iw_octets::{MAX_OCTETS, Stag};
 use slab::Slab;
 use std::alloc::{Allocator, Global};
 use std::marker::Model;
+
+/// How many octets a region has at most in memory that a program keeps: as many as a processor addresses.
+const MOST_KEPT: usize = 1 << 46;
 
 /// The registered regions of an endpoint, by domain. An STag names a region by its domain, its slot there, and a key
 /// that tells the uses of the slot apart.
@@ -50,10 +54,10 @@ impl<A: Allocator> Model for Memory<A> {
 }
 
 impl<A: Allocator> Memory<A> {
-    ghost use Rattle.iw_memory.specs.Region.{facts_of, new_region, bound_region, in_domain, IsWithinLimits};
+    ghost use Rattle.iw_memory.specs.Region.{facts_of, new_region, bound_region, in_domain, most_octets, IsWithinLimits};
     ghost use Rattle.iw_memory.specs.Part.{free_slot};
     ghost use Rattle.iw_memory.specs.Table.{empty, is_added, slots_of, domain_refusal, added};
-    ghost use Rattle.iw_memory.specs.Table.{region_at, register_refusal, next_stag, registered, deregistered};
+    ghost use Rattle.iw_memory.specs.Table.{region_at, register_refusal, register_refusal_within, next_stag, registered, deregistered};
     ghost use Rattle.iw_memory.specs.Table.{drawn_stag, registered_at, registered_drawn};
     ghost use Rattle.iw_memory.specs.Inside.{IsVacant};
     ghost use Rattle.iw_memory.specs.Table.{denial, denial_for, octets_at, put, store_refusal};
@@ -227,29 +231,34 @@ impl<A: Allocator> Memory<A> {
         rights: Rights,
         drawn: u32,
     ) -> Result<Stag, (RegisterRefusal, RegionOctets<A>)>
-        ensures refused { IfSome (register_refusal self.old pd base (length (octets_of octets)))
-            (λ refusal. IfErr result (λ e. e.0 ≡ refusal) × IsErr result) }
-        ensures memory { IfNone (register_refusal self.old pd base (length (octets_of octets)))
-            (IfErr result (λ e. e.0 ≡ RegisterRefusal.NoMemory)) }
+        ensures refused { IfSome (octets_refusal self.old pd base octets) (λ refusal. IfErr result (λ e. e.0 ≡ refusal) × IsErr result) }
+        ensures memory { IfNone (octets_refusal self.old pd base octets) (IfErr result (λ e. e.0 ≡ RegisterRefusal.NoMemory)) }
         ensures back { IfErr result (λ e. e.1 ≡ octets) }
         ensures err { OnErr result (self.new ≡ self.old) }
         ensures stag { IfOk result (λ stag. stag ≡ drawn_stag self.old pd drawn) }
         ensures ok { OnOk result (self.new ≡ registered_drawn self.old pd drawn (region_of base octets rights bound)) }
     {
-        match self.drawn_stag(pd, base, octets.len(), drawn) {
+        match self.drawn_stag(pd, base, octets.len(), octets.is_kept(), drawn) {
             Err(refusal) => Err((refusal, octets)),
             Ok(stag) => self.hold(stag, bound, base, octets, rights),
         }
     }
 
     // The STag that is drawn for the next region of the domain.
-    fn drawn_stag(&self, pd: u8, base: u64, len: usize, drawn: u32) -> Result<Stag, RegisterRefusal>
-        ensures refused { result_err result ≡ register_refusal self.now pd base len }
+    fn drawn_stag(
+        &self,
+        pd: u8,
+        base: u64,
+        len: usize,
+        kept: bool,
+        drawn: u32,
+    ) -> Result<Stag, RegisterRefusal>
+        ensures refused { result_err result ≡ register_refusal_within (most_octets kept) self.now pd base len }
         ensures stag { IfOk result (λ stag. stag ≡ drawn_stag self.now pd drawn) }
         ensures vacant { IfOk result (λ stag. IsVacant self.now stag) }
         ensures limits { OnOk result (IsWithinLimits base len) }
     {
-        match self.slot_for(pd, base, len) {
+        match self.slot_for(pd, base, len, kept) {
             Err(refusal) => Err(refusal),
             Ok(_) => {
                 let slot = self.domains.first_free(pd, (drawn % 1024) as usize);
@@ -269,29 +278,27 @@ impl<A: Allocator> Memory<A> {
         octets: RegionOctets<A>,
         rights: Rights,
     ) -> Result<Stag, (RegisterRefusal, RegionOctets<A>)>
-        ensures refused { IfSome (register_refusal self.old pd base (length (octets_of octets)))
-            (λ refusal. IfErr result (λ e. e.0 ≡ refusal) × IsErr result) }
-        ensures memory { IfNone (register_refusal self.old pd base (length (octets_of octets)))
-            (IfErr result (λ e. e.0 ≡ RegisterRefusal.NoMemory)) }
+        ensures refused { IfSome (octets_refusal self.old pd base octets) (λ refusal. IfErr result (λ e. e.0 ≡ refusal) × IsErr result) }
+        ensures memory { IfNone (octets_refusal self.old pd base octets) (IfErr result (λ e. e.0 ≡ RegisterRefusal.NoMemory)) }
         ensures back { IfErr result (λ e. e.1 ≡ octets) }
         ensures err { OnErr result (self.new ≡ self.old) }
         ensures stag { IfOk result (λ stag. stag ≡ next_stag self.old pd) }
         ensures ok { OnOk result (self.new ≡ registered self.old pd (region_of base octets rights bound)) }
     {
-        match self.next_stag(pd, base, octets.len()) {
+        match self.next_stag(pd, base, octets.len(), octets.is_kept()) {
             Err(refusal) => Err((refusal, octets)),
             Ok(stag) => self.hold(stag, bound, base, octets, rights),
         }
     }
 
     // The STag that the next region of the domain gets.
-    fn next_stag(&self, pd: u8, base: u64, len: usize) -> Result<Stag, RegisterRefusal>
-        ensures refused { result_err result ≡ register_refusal self.now pd base len }
+    fn next_stag(&self, pd: u8, base: u64, len: usize, kept: bool) -> Result<Stag, RegisterRefusal>
+        ensures refused { result_err result ≡ register_refusal_within (most_octets kept) self.now pd base len }
         ensures stag { IfOk result (λ stag. stag ≡ next_stag self.now pd) }
         ensures vacant { IfOk result (λ stag. IsVacant self.now stag) }
         ensures limits { OnOk result (IsWithinLimits base len) }
     {
-        match self.slot_for(pd, base, len) {
+        match self.slot_for(pd, base, len, kept) {
             Err(refusal) => Err(refusal),
             Ok(slot) => {
                 let key = self.domains.key(pd, slot);
@@ -301,8 +308,8 @@ impl<A: Allocator> Memory<A> {
     }
 
     // The slot that the next region of the domain gets.
-    fn slot_for(&self, pd: u8, base: u64, len: usize) -> Result<usize, RegisterRefusal>
-        ensures refused { result_err result ≡ register_refusal self.now pd base len }
+    fn slot_for(&self, pd: u8, base: u64, len: usize, kept: bool) -> Result<usize, RegisterRefusal>
+        ensures refused { result_err result ≡ register_refusal_within (most_octets kept) self.now pd base len }
         ensures slot { IfOk result (λ slot. (slot ≡ free_slot (slots_of self.now pd)) × (slot < 1024)) }
         ensures limits { OnOk result (IsWithinLimits base len) }
     {
@@ -313,7 +320,7 @@ impl<A: Allocator> Memory<A> {
         if slot >= MAX_SLOTS {
             return Err(RegisterRefusal::DomainFull);
         }
-        if len > MAX_OCTETS {
+        if len > most_octets(kept) {
             return Err(RegisterRefusal::TooLong);
         }
         if len > 0 && len as u64 - 1 > u64::MAX - base {
@@ -738,6 +745,14 @@ impl<A: Allocator> Memory<A> {
         let key = self.domains.find(stag).unwrap();
         self.regions[key].part_mut(to, n)
     }
+}
+
+// How many octets a region has at most, if a program keeps its memory, or else.
+fn most_octets(kept: bool) -> usize
+    ensures is { result ≡ most_octets kept }
+    ensures small { result ≤ 2 ^ 46 }
+{
+    if kept { MOST_KEPT } else { MAX_OCTETS }
 }
 
 // Takes out the region that the STag names, which is stored there.

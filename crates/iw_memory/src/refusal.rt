@@ -24,7 +24,7 @@ pub enum RegisterRefusal {
     /// The domain has 1,024 regions, valid or not: deregister one, or use another domain.
     #[error("the domain has 1,024 regions: deregister one, or use another domain")]
     DomainFull,
-    /// There are more than 16,777,216 octets, the most that a region has: register them in parts.
+    /// There are more octets than a region has, 16,777,216, or 2^46 in memory that a program keeps: register them in parts.
     #[error("a region has at most 16,777,216 octets: register them in parts")]
     TooLong,
     /// The base and the number of octets come to more than 2^64: use a lower base.

@@ -1,4 +1,5 @@
 pub mod Request
+pub mod Outgoing
 pub mod Completions
 pub mod Queue
 pub mod Shown

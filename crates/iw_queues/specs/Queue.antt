@@ -19,12 +19,15 @@ abbrev pub nothing_posted : Queue
 nothing_posted = record { sent = nothing_sent; unsent = []; offset = 0 }
 
 -- ---- posting
--- why a message is not posted, except that there is no memory
-abbrev pub post_refusal : Queue → Request (List ℕ) → Option Refusal
-post_refusal q message =
+-- why a message of n octets is not posted, except that there is no memory
+abbrev pub size_refusal : Queue → ℕ → Option Refusal
+size_refusal q n =
     if nat_le 256 (length q.sent.messages + length q.unsent) then Some Full
-    else if nat_lt 16777216 (size_of message) then Some TooLong
+    else if nat_lt 16777216 n then Some TooLong
     else None
+
+abbrev pub post_refusal : Queue → Request (List ℕ) → Option Refusal
+post_refusal q message = size_refusal q (size_of message)
 
 -- the ticket of the next message to be posted
 abbrev pub ticket_past : Queue → ℕ

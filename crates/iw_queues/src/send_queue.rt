@@ -1,15 +1,18 @@
-ghost use Rattle.std.specs.Prelude.{◌≡◌, ◌↔◌, ◌+◌, ◌<◌, ◌≤◌, ◌^◌, nat_lt, length, take, drop, slice_get};
+ghost use Rattle.std.specs.Prelude.{◌≡◌, ◌↔◌, ◌+◌, ◌%◌, ◌<◌, ◌≤◌, ◌^◌, nat_lt, length, take, drop, slice_get};
 ghost use Rattle.std.specs.Prelude.{IsTrue, MatchBool, Some, IfSome, IfNone, IfOk, IfErr, IsErr, OnOk, OnErr};
 ghost use Rattle.std.specs.Option.{option_map};
+ghost use Rattle.std.specs.VecDeque.{deque_len, deque_capacity};
 ghost use Rattle.iw_queues.specs.Request.{kind_of, payload};
 
 use crate::completions::{Completions, Done};
-use crate::request::{Kind, Refusal, Request};
+use crate::outgoing::Outgoing;
+use crate::request::{Kind, Refusal, Request, kept_len, kept_request};
 use bytes::Bytes;
-use iw_octets::MAX_OCTETS;
-use std::alloc::{Allocator, Global};
+use iw_octets::{MAX_OCTETS, Message};
+use std::alloc::{AllocError, Allocator, Global};
 use std::collections::VecDeque;
 use std::marker::Model;
+use std_alloc::vec::Lodged;
 
 /// How many messages may be posted and not yet handed out.
 const MAX_POSTED: usize = 256;
@@ -34,12 +37,12 @@ pub struct SendQueue<A: Allocator = Global> {
     // The messages that were sent whole, with room for each of the others.
     sent: Completions<A>,
     // The others.
-    unsent: VecDeque<Request<Bytes<A>>, A>,
+    unsent: VecDeque<Request<Outgoing<A>>, A>,
     // How many octets of the first of them were sent.
     offset: usize,
 }
 
-impl<'a, A: Allocator> Part<&'a Request<Bytes<A>>> {
+impl<'a, A: Allocator> Part<&'a Request<Outgoing<A>>> {
     /// The part's octets, lent by the message.
     pub fn octets(&self) -> &'a [u8]
         requires { self.now.offset + self.now.n ≤ length (payload self.now.message.now) }
@@ -65,7 +68,8 @@ impl<A: Allocator> Model for SendQueue<A> {
 
 impl<A: Allocator> SendQueue<A> {
     ghost use Rattle.iw_queues.specs.Completions.{IsAwaited, finished};
-    ghost use Rattle.iw_queues.specs.Queue.{nothing_posted, post_refusal, ticket_past, posted, IsWithinLimits};
+    ghost use Rattle.iw_queues.specs.Outgoing.{request_of};
+    ghost use Rattle.iw_queues.specs.Queue.{nothing_posted, post_refusal, size_refusal, ticket_past, posted, IsWithinLimits};
     ghost use Rattle.iw_queues.specs.Queue.{next_part, part_sent, sent_with, IsNext};
     ghost use Rattle.iw_queues.specs.Queue.{done_in, oldest_in, handed_from};
     ghost use Rattle.iw_queues.specs.Shown.{shown};
@@ -126,26 +130,55 @@ impl<A: Allocator> SendQueue<A> {
         ensures ticket { IfOk result (λ ticket. ticket ≡ ticket_past self.old) }
         ensures ok { OnOk result (self.new ≡ posted self.old message) }
     {
-        if let Some(refusal) = self.refusal(&message) {
+        if let Some(refusal) = self.refusal(message.size()) {
             return Err((refusal, message));
         }
-        let unsent = self.unsent.len();
-        if self.sent.ready(unsent + 1).is_err() || self.unsent.reserve(1).is_err() {
-            return Err((Refusal::NoMemory, message));
+        match make_room(&mut self.sent, &mut self.unsent) {
+            Err(AllocError) => Err((Refusal::NoMemory, message)),
+            Ok(ticket) => {
+                self.unsent.push_back_reserved(message.outgoing());
+                Ok(ticket)
+            }
         }
-        let ticket = self.sent.next_ticket().wrapping_add(unsent as u64);
-        self.unsent.push_back_reserved(message);
-        Ok(ticket)
     }
 
-    // Why the message is not posted, except that there is no memory.
-    fn refusal(&self, message: &Request<Bytes<A>>) -> Option<Refusal>
-        ensures { result ≡ post_refusal self.now message.now }
+    /// Posts a message as [`post`](Self::post) does, whose octets are in memory that a program keeps. They are read where they
+    /// are as its parts are sent: the program leaves them alone until the message is handed out. An `Err` changes nothing, and
+    /// hands the message back.
+    pub fn post_kept(
+        &mut self,
+        message: Message<Vec<u8, Lodged>>,
+    ) -> Result<u64, (Refusal, Message<Vec<u8, Lodged>>)>
+        // The refusal if one applies, and otherwise out of memory alone.
+        ensures refused { IfSome (post_refusal self.old (request_of message))
+            (λ refusal. IfErr result (λ e. e.0 ≡ refusal) × IsErr result) }
+        ensures memory { IfNone (post_refusal self.old (request_of message)) (IfErr result (λ e. e.0 ≡ Refusal.NoMemory)) }
+        ensures back { IfErr result (λ e. e.1 ≡ message) }
+        ensures err { OnErr result (self.new ≡ self.old) }
+
+        ensures ticket { IfOk result (λ ticket. ticket ≡ ticket_past self.old) }
+        ensures ok { OnOk result (self.new ≡ posted self.old (request_of message)) }
+    {
+        if let Some(refusal) = self.refusal(kept_len(&message)) {
+            return Err((refusal, message));
+        }
+        match make_room(&mut self.sent, &mut self.unsent) {
+            Err(AllocError) => Err((Refusal::NoMemory, message)),
+            Ok(ticket) => {
+                self.unsent.push_back_reserved(kept_request(message));
+                Ok(ticket)
+            }
+        }
+    }
+
+    // Why a message of `n` octets is not posted, except that there is no memory.
+    fn refusal(&self, n: usize) -> Option<Refusal>
+        ensures { result ≡ size_refusal self.now n }
     {
         if self.len() >= MAX_POSTED {
             return Some(Refusal::Full);
         }
-        if message.size() > MAX_OCTETS {
+        if n > MAX_OCTETS {
             return Some(Refusal::TooLong);
         }
         None
@@ -156,7 +189,7 @@ impl<A: Allocator> SendQueue<A> {
     /// `max` is the largest ULPDU that may be sent, in octets. A part is as long as the ULPDU allows after the header,
     /// and the last one has what is left. Only the part of an empty message is empty. A Read is one part without octets.
     #[inline(always)]
-    pub fn next_part(&self, max: usize) -> Option<Part<&Request<Bytes<A>>>>
+    pub fn next_part(&self, max: usize) -> Option<Part<&Request<Outgoing<A>>>>
         requires { 128 ≤ max }
         ensures part { shown result ≡ next_part self.now max }
         ensures within { IfSome result (λ part. part.offset + part.n ≤ length (payload part.message.now)) }
@@ -232,8 +265,27 @@ impl<A: Allocator> SendQueue<A> {
     }
 }
 
+// Makes room for one more message, and tells its ticket.
+fn make_room<A: Allocator>(
+    sent: &mut Completions<A>,
+    unsent: &mut VecDeque<Request<Outgoing<A>>, A>,
+) -> Result<u64, AllocError>
+    ensures sent { sent.new.outstanding ≡ sent.old.outstanding }
+    ensures unsent { unsent.new.items ≡ unsent.old.items }
+    ensures ticket { IfOk result (λ ticket. ticket
+        ≡ (sent.old.outstanding.first + (length sent.old.outstanding.messages + length unsent.old.items)) % 2 ^ 64) }
+    ensures kept { sent.old.room ≤ sent.new.room }
+    ensures room { OnOk result (length unsent.old.items + 1 ≤ sent.new.room) }
+    ensures spare { OnOk result (deque_len unsent.new < deque_capacity unsent.new) }
+{
+    let n = unsent.len();
+    sent.ready(n + 1)?;
+    unsent.reserve(1)?;
+    Ok(sent.next_ticket().wrapping_add(n as u64))
+}
+
 // Takes the first message and tells what it is. Its octets are dropped.
-fn take_first<A: Allocator>(messages: &mut VecDeque<Request<Bytes<A>>, A>) -> Option<Kind>
+fn take_first<A: Allocator>(messages: &mut VecDeque<Request<Outgoing<A>>, A>) -> Option<Kind>
     ensures kind { result ≡ option_map kind_of (slice_get messages.old.items 0) }
     ensures rest { messages.new.items ≡ drop 1 messages.old.items }
 {

@@ -1,6 +1,7 @@
 //! A stream: how it is made, its postings, and what is told of it; its other calls are in `stream/`.
 ghost use Rattle.std.specs.Prelude.{◌≡◌, ◌-◌, length, true, false, None, IfSome, IfNone, IfOk, IfErr, IsErr, OnOk, OnErr};
 ghost use Rattle.std.specs.Result.{result_err};
+ghost use Rattle.iw_queues.specs.Outgoing.{request_of};
 ghost use Rattle.iw_ranges.specs.Arrived.{BringsOctets};
 ghost use Rattle.iw_stream.specs.Ending.{has_ended, last_word};
 ghost use Rattle.iw_stream.specs.Starting.{is_open, exceeds_request, private_in, told_in, options_in, agreement_in};
@@ -15,7 +16,6 @@ mod sharing;
 mod tasks;
 mod turns;
 
-use self::emission::is_read;
 use crate::answer::{
     AnswerRefusal, FirstRefusal, PostRefusal, RecvRefusal, Role, SizeRefusal, Standing,
 };
@@ -27,7 +27,7 @@ use crate::terminating::{LastWord, over};
 use crate::writing::Numbers;
 use bytes::Bytes;
 use iw_memory::Peer;
-use iw_octets::MAX_ULPDU;
+use iw_octets::{MAX_ULPDU, Message};
 use iw_queues::{Refusal, Request, SendQueue};
 use iw_ranges::Delivery;
 use iw_ranges::nearest::near;
@@ -36,6 +36,7 @@ use iw_startup::{Agreed, Config, EnhancedData, PeerOptions, PrivateData};
 use iw_untagged::{BufferRefusal, RecvQueue};
 use std::alloc::{AllocError, Allocator, Global};
 use std::marker::Model;
+use std_alloc::vec::Lodged;
 
 // The ULPDU size of a stream for which none was set, in octets.
 const FIRST_MULPDU: u16 = 1400;
@@ -330,12 +331,35 @@ impl<A: Allocator> Stream<A> {
         if self.ending.has_ended() || !self.start.is_open() {
             return Err((PostRefusal::NotOpen, request));
         }
-        if is_read(&request) && self.start.most_reads() == 0 {
+        if matches!(request, Request::Read(_)) && self.start.most_reads() == 0 {
             return Err((PostRefusal::NoReads, request));
         }
         match self.queue.post(request) {
             Ok(_) => Ok(()),
             Err((refusal, request)) => Err((post_refusal_of(refusal), request)),
+        }
+    }
+
+    /// Posts a message after the others, whose octets are in memory that a program keeps: they are read where they are, as the
+    /// message's frames are emitted, so the program leaves them alone until the message is handed out. An `Err` changes
+    /// nothing, and hands back what was to be posted.
+    pub fn post_kept(
+        &mut self,
+        message: Message<Vec<u8, Lodged>>,
+    ) -> Result<(), (PostRefusal, Message<Vec<u8, Lodged>>)>
+        // The refusal if one applies, and otherwise out of memory alone.
+        ensures refused { IfSome (post_refusal self.old (request_of message)) (λ refusal. IfErr result (λ e. e.0 ≡ refusal) × IsErr result) }
+        ensures memory { IfNone (post_refusal self.old (request_of message)) (IfErr result (λ e. e.0 ≡ PostRefusal.NoMemory)) }
+        ensures back { IfErr result (λ e. e.1 ≡ message) }
+        ensures err { OnErr result (self.new ≡ self.old) }
+        ensures ok { OnOk result (self.new ≡ with_request self.old (request_of message)) }
+    {
+        if self.ending.has_ended() || !self.start.is_open() {
+            return Err((PostRefusal::NotOpen, message));
+        }
+        match self.queue.post_kept(message) {
+            Ok(_) => Ok(()),
+            Err((refusal, message)) => Err((post_refusal_of(refusal), message)),
         }
     }
 

@@ -12,13 +12,12 @@ ghost use Rattle.iw_rdmap.specs.Laws.{terminate_head};
 ghost use Rattle.iw_stream.specs.Emitting.{numbers_of};
 ghost use Rattle.iw_stream.specs.Rtr.{rtr_stag, rtr_request, rtr_message, rtr_segment};
 
-use bytes::Bytes;
 use iw_fpdu::{Layout, write_segment};
 use iw_octets::{
     DDP_VERSION, Message, ReadRequest, Stag, TAGGED_HEADER, TaggedHead, UNTAGGED_HEADER,
     UntaggedHead,
 };
-use iw_queues::{Part, Request};
+use iw_queues::{Outgoing, Part, Request};
 use iw_rdmap::{MAX_TERMINATE, TaggedOperation, UntaggedOperation};
 use iw_startup::Rtr;
 use std::alloc::{AllocError, Allocator};
@@ -39,7 +38,7 @@ impl Numbers {
     }
 
     /// Those after a part that is sent: a message has its number until its last part.
-    pub(crate) fn beyond<A: Allocator>(self, part: &Part<&Request<Bytes<A>>>) -> Numbers
+    pub(crate) fn beyond<A: Allocator>(self, part: &Part<&Request<Outgoing<A>>>) -> Numbers
         ensures { numbers_of result ≡ numbers_beyond (numbers_of self) (shown_part part.now) }
     {
         let Numbers { send, read } = self;
@@ -182,7 +181,7 @@ pub(crate) fn write_part<A: Allocator, B: Allocator>(
     layout: Layout,
     at: u64,
     numbers: Numbers,
-    part: &Part<&Request<Bytes<B>>>,
+    part: &Part<&Request<Outgoing<B>>>,
     out: &mut Vec<u8, A>,
 ) -> Result<(), AllocError>
     requires place { at < 2 ^ 63 }

@@ -3,22 +3,26 @@ ghost use Rattle.std.specs.Prelude.{◌≡◌, Some, length, IfSome, IfNone, IfO
 ghost use Rattle.std.specs.Option.{option_map};
 ghost use Rattle.std.specs.Result.{result_err, result_ok};
 ghost use Rattle.iw_kept.specs.Octets.{octets_of as octets_in, is_kept};
-ghost use Rattle.iw_memory.specs.Forms.{kept_refusal};
-ghost use Rattle.iw_memory.specs.Table.{region_at, register_refusal, next_stag, drawn_stag};
+ghost use Rattle.iw_queues.specs.Outgoing.{request_of};
+ghost use Rattle.iw_memory.specs.Forms.{octets_refusal, kept_refusal};
+ghost use Rattle.iw_memory.specs.Table.{region_at, next_stag, drawn_stag};
 
 use super::Endpoint;
 use crate::refusal::{CallRefusal, LimitRefusal};
 use iw_kept::{Lodged, RegionOctets};
 use iw_memory::{DeregisterRefusal, NoRegion, RegisterRefusal, Rights, Stag};
+use iw_octets::Message;
+use iw_stream::PostRefusal;
 use std::alloc::Allocator;
 
 impl<A: Allocator> Endpoint<A> {
-    ghost use Rattle.iw_endpoint.specs.Endpoint.{stream_at, limit_refusal, octets_of, deregistered};
-    ghost use Rattle.iw_endpoint.specs.KeptRegions.{registered_octets, limited_octets, drawn_octets, limited_drawn_octets};
+    ghost use Rattle.iw_endpoint.specs.Endpoint.{stream_at, post_refusal, with_request, octets_of, deregistered};
+    ghost use Rattle.iw_endpoint.specs.KeptRegions.{limited_refusal, registered_octets, limited_octets, drawn_octets, limited_drawn_octets};
 
     /// Registers octets in a domain as [`Endpoint::register`] does, in either form: a vector's, or in memory that a program
     /// keeps, which it then leaves to the endpoint until it has it back ([`Endpoint::deregister_kept`],
-    /// [`Endpoint::take_region`]). The refusals are those of `register`. An `Err` changes nothing and gives the octets back.
+    /// [`Endpoint::take_region`]). Such memory may have up to 2^46 octets. The refusals are those of `register`. An `Err`
+    /// changes nothing and gives the octets back.
     pub fn register_octets(
         &mut self,
         pd: u8,
@@ -27,10 +31,8 @@ impl<A: Allocator> Endpoint<A> {
         rights: Rights,
     ) -> Result<Stag, (RegisterRefusal, RegionOctets<A>)>
         // The first refusal that applies; if none does, only `NoMemory`.
-        ensures refused { IfSome (register_refusal self.old.table pd base (length (octets_in octets)))
-            (λ refusal. IfErr result (λ e. e.0 ≡ refusal) × IsErr result) }
-        ensures memory { IfNone (register_refusal self.old.table pd base (length (octets_in octets)))
-            (IfErr result (λ e. e.0 ≡ RegisterRefusal.NoMemory)) }
+        ensures refused { IfSome (octets_refusal self.old.table pd base octets) (λ refusal. IfErr result (λ e. e.0 ≡ refusal) × IsErr result) }
+        ensures memory { IfNone (octets_refusal self.old.table pd base octets) (IfErr result (λ e. e.0 ≡ RegisterRefusal.NoMemory)) }
         ensures back { IfErr result (λ e. e.1 ≡ octets) }
         ensures err { OnErr result (self.new ≡ self.old) }
 
@@ -50,10 +52,8 @@ impl<A: Allocator> Endpoint<A> {
         drawn: u32,
     ) -> Result<Stag, (RegisterRefusal, RegionOctets<A>)>
         // The first refusal that applies; if none does, only `NoMemory`.
-        ensures refused { IfSome (register_refusal self.old.table pd base (length (octets_in octets)))
-            (λ refusal. IfErr result (λ e. e.0 ≡ refusal) × IsErr result) }
-        ensures memory { IfNone (register_refusal self.old.table pd base (length (octets_in octets)))
-            (IfErr result (λ e. e.0 ≡ RegisterRefusal.NoMemory)) }
+        ensures refused { IfSome (octets_refusal self.old.table pd base octets) (λ refusal. IfErr result (λ e. e.0 ≡ refusal) × IsErr result) }
+        ensures memory { IfNone (octets_refusal self.old.table pd base octets) (IfErr result (λ e. e.0 ≡ RegisterRefusal.NoMemory)) }
         ensures back { IfErr result (λ e. e.1 ≡ octets) }
         ensures err { OnErr result (self.new ≡ self.old) }
 
@@ -74,9 +74,8 @@ impl<A: Allocator> Endpoint<A> {
         rights: Rights,
     ) -> Result<Stag, (CallRefusal<LimitRefusal>, RegionOctets<A>)>
         // The first refusal that applies; if none does, only `NoMemory`.
-        ensures refused { IfSome (limit_refusal self.old number base (length (octets_in octets)))
-            (λ refusal. IfErr result (λ e. e.0 ≡ refusal) × IsErr result) }
-        ensures memory { IfNone (limit_refusal self.old number base (length (octets_in octets)))
+        ensures refused { IfSome (limited_refusal self.old number base octets) (λ refusal. IfErr result (λ e. e.0 ≡ refusal) × IsErr result) }
+        ensures memory { IfNone (limited_refusal self.old number base octets)
             (IfErr result (λ e. e.0 ≡ CallRefusal.Refused (LimitRefusal.Refused RegisterRefusal.NoMemory))) }
         ensures back { IfErr result (λ e. e.1 ≡ octets) }
         ensures err { OnErr result (self.new ≡ self.old) }
@@ -109,9 +108,8 @@ impl<A: Allocator> Endpoint<A> {
         drawn: u32,
     ) -> Result<Stag, (CallRefusal<LimitRefusal>, RegionOctets<A>)>
         // The first refusal that applies; if none does, only `NoMemory`.
-        ensures refused { IfSome (limit_refusal self.old number base (length (octets_in octets)))
-            (λ refusal. IfErr result (λ e. e.0 ≡ refusal) × IsErr result) }
-        ensures memory { IfNone (limit_refusal self.old number base (length (octets_in octets)))
+        ensures refused { IfSome (limited_refusal self.old number base octets) (λ refusal. IfErr result (λ e. e.0 ≡ refusal) × IsErr result) }
+        ensures memory { IfNone (limited_refusal self.old number base octets)
             (IfErr result (λ e. e.0 ≡ CallRefusal.Refused (LimitRefusal.Refused RegisterRefusal.NoMemory))) }
         ensures back { IfErr result (λ e. e.1 ≡ octets) }
         ensures err { OnErr result (self.new ≡ self.old) }
@@ -131,6 +129,32 @@ impl<A: Allocator> Endpoint<A> {
                 )),
             },
             Err(refusal) => Err((refusal, octets)),
+        }
+    }
+
+    /// Posts a message as [`Endpoint::post`] does, whose octets are in memory that a program keeps: they are copied into frames
+    /// alone, as these are emitted. The program leaves the memory as it is until [`Step::Done`](crate::Step::Done) or
+    /// [`Step::Flushed`](crate::Step::Flushed) reports the message, or the stream is closed. An `Err` changes
+    /// nothing and gives the message back; `NoMemory` comes only if no other refusal applies.
+    pub fn post_kept(
+        &mut self,
+        number: u32,
+        message: Message<Vec<u8, Lodged>>,
+    ) -> Result<(), (CallRefusal<PostRefusal>, Message<Vec<u8, Lodged>>)>
+        // The first refusal that applies; if none does, only `NoMemory`.
+        ensures refused { IfSome (post_refusal self.old number (request_of message)) (λ refusal. IfErr result (λ e. e.0 ≡ refusal) × IsErr result) }
+        ensures memory { IfNone (post_refusal self.old number (request_of message))
+            (IfErr result (λ e. e.0 ≡ CallRefusal.Refused PostRefusal.NoMemory)) }
+        ensures back { IfErr result (λ e. e.1 ≡ message) }
+        ensures err { OnErr result (self.new ≡ self.old) }
+        ensures ok { OnOk result (self.new ≡ with_request self.old number (request_of message)) }
+    {
+        match self.streams.get_mut(number) {
+            Some(stream) => match stream.post_kept(message) {
+                Ok(()) => Ok(()),
+                Err((refusal, message)) => Err((CallRefusal::Refused(refusal), message)),
+            },
+            None => Err((CallRefusal::NoSuchStream, message)),
         }
     }
 

@@ -1,7 +1,7 @@
 //! Registering a region that a struct describes.
 ghost use Rattle.std.specs.Prelude.{◌≡◌, length, IfSome, IfNone, IfOk, IfErr, IsErr, OnOk, OnErr};
 ghost use Rattle.iw_kept.specs.Octets.{octets_of as octets_in, is_kept};
-ghost use Rattle.iw_memory.specs.Table.{register_refusal};
+ghost use Rattle.iw_memory.specs.Forms.{octets_refusal};
 
 use super::Endpoint;
 use crate::refusal::{CallRefusal, LimitRefusal};
@@ -11,7 +11,8 @@ use iw_memory::{RegisterRefusal, Rights, Stag};
 use std::alloc::Allocator;
 
 impl<A: Allocator> Endpoint<A> {
-    ghost use Rattle.iw_endpoint.specs.Endpoint.{stream_at, limit_refusal};
+    ghost use Rattle.iw_endpoint.specs.Endpoint.{stream_at};
+    ghost use Rattle.iw_endpoint.specs.KeptRegions.{limited_refusal};
     ghost use Rattle.iw_endpoint.specs.Registering.{stag_by, stag_as, registered_within, registered_for};
     ghost use Rattle.iw_endpoint.specs.Registering.{registration_refusal, registered_as};
 
@@ -24,10 +25,8 @@ impl<A: Allocator> Endpoint<A> {
         rights: Rights,
         drawn: Option<u32>,
     ) -> Result<Stag, (RegisterRefusal, RegionOctets<A>)>
-        ensures refused { IfSome (register_refusal self.old.table pd base (length (octets_in octets)))
-            (λ refusal. IfErr result (λ e. e.0 ≡ refusal) × IsErr result) }
-        ensures memory { IfNone (register_refusal self.old.table pd base (length (octets_in octets)))
-            (IfErr result (λ e. e.0 ≡ RegisterRefusal.NoMemory)) }
+        ensures refused { IfSome (octets_refusal self.old.table pd base octets) (λ refusal. IfErr result (λ e. e.0 ≡ refusal) × IsErr result) }
+        ensures memory { IfNone (octets_refusal self.old.table pd base octets) (IfErr result (λ e. e.0 ≡ RegisterRefusal.NoMemory)) }
         ensures back { IfErr result (λ e. e.1 ≡ octets) }
         ensures err { OnErr result (self.new ≡ self.old) }
         ensures stag { IfOk result (λ stag. stag ≡ stag_by self.old.table pd drawn) }
@@ -48,9 +47,8 @@ impl<A: Allocator> Endpoint<A> {
         rights: Rights,
         drawn: Option<u32>,
     ) -> Result<Stag, (CallRefusal<LimitRefusal>, RegionOctets<A>)>
-        ensures refused { IfSome (limit_refusal self.old number base (length (octets_in octets)))
-            (λ refusal. IfErr result (λ e. e.0 ≡ refusal) × IsErr result) }
-        ensures memory { IfNone (limit_refusal self.old number base (length (octets_in octets)))
+        ensures refused { IfSome (limited_refusal self.old number base octets) (λ refusal. IfErr result (λ e. e.0 ≡ refusal) × IsErr result) }
+        ensures memory { IfNone (limited_refusal self.old number base octets)
             (IfErr result (λ e. e.0 ≡ CallRefusal.Refused (LimitRefusal.Refused RegisterRefusal.NoMemory))) }
         ensures back { IfErr result (λ e. e.1 ≡ octets) }
         ensures err { OnErr result (self.new ≡ self.old) }
@@ -76,9 +74,9 @@ impl<A: Allocator> Endpoint<A> {
         octets: RegionOctets<A>,
     ) -> Result<Stag, (CallRefusal<LimitRefusal>, RegionOctets<A>)>
         // The first refusal that applies; if none does, only `NoMemory`.
-        ensures refused { IfSome (registration_refusal self.old registration (length (octets_in octets)))
+        ensures refused { IfSome (registration_refusal self.old registration (is_kept octets) (length (octets_in octets)))
             (λ refusal. IfErr result (λ e. e.0 ≡ refusal) × IsErr result) }
-        ensures memory { IfNone (registration_refusal self.old registration (length (octets_in octets)))
+        ensures memory { IfNone (registration_refusal self.old registration (is_kept octets) (length (octets_in octets)))
             (IfErr result (λ e. e.0 ≡ CallRefusal.Refused (LimitRefusal.Refused RegisterRefusal.NoMemory))) }
         ensures back { IfErr result (λ e. e.1 ≡ octets) }
         ensures err { OnErr result (self.new ≡ self.old) }

@@ -18,15 +18,14 @@ use crate::answer::Emission;
 use crate::ending::Ending;
 use crate::terminating::terminate_fetched;
 use crate::writing::{Numbers, rtr_request, write_part, write_rtr, write_tagged, write_terminate};
-use bytes::Bytes;
 use iw_memory::{Memory, Peer};
 use iw_octets::Message;
-use iw_queues::{Part, Request};
+use iw_queues::{Outgoing, Part, Request};
 use iw_reads::{Reads, ResponsePart, fetch};
 use iw_startup::Rtr;
 use std::alloc::{AllocError, Allocator};
 
-pub(super) fn is_read<A: Allocator>(request: &Request<Bytes<A>>) -> bool
+fn is_read<A: Allocator>(request: &Request<Outgoing<A>>) -> bool
     ensures { result ≡ is_read request.now }
 {
     matches!(request, Request::Read(_))
@@ -36,7 +35,7 @@ pub(super) fn is_read<A: Allocator>(request: &Request<Bytes<A>>) -> bool
 pub(super) fn must_wait<A: Allocator>(
     most: usize,
     reads: &Reads<A>,
-    request: &Request<Bytes<A>>,
+    request: &Request<Outgoing<A>>,
 ) -> bool
     requires { most ≤ most_reads }
     ensures waits { result ≡ is_read request.now && nat_le most (length reads.now) }
@@ -49,7 +48,7 @@ pub(super) fn must_wait<A: Allocator>(
 fn read_sent<A: Allocator>(
     reads: &mut Reads<A>,
     ticket: u64,
-    request: &Request<Bytes<A>>,
+    request: &Request<Outgoing<A>>,
 ) -> Result<(), AllocError>
     requires { (is_read request.now && nat_le most_reads (length reads.old)) ≡ false }
     ensures ok { OnOk result (reads.new ≡ reads_with reads.old (Some ticket) request.now) }
@@ -68,7 +67,7 @@ fn read_sent<A: Allocator>(
 fn count_part<A: Allocator>(
     numbers: &mut Numbers,
     reads: &mut Reads<A>,
-    part: &Part<&Request<Bytes<A>>>,
+    part: &Part<&Request<Outgoing<A>>>,
 ) -> Result<(), AllocError>
     requires { (is_read part.now.message.now && nat_le most_reads (length reads.old)) ≡ false }
     ensures numbers { OnOk result (numbers_of numbers.new ≡ numbers_beyond (numbers_of numbers.old) (shown_part part.now)) }

@@ -13,16 +13,15 @@ ghost use Rattle.iw_stream.specs.Rtr.{rtr_segment};
 use super::Stream;
 use super::emission::must_wait;
 use crate::ending::Ending;
-use bytes::Bytes;
 use iw_memory::{Memory, Peer};
 use iw_octets::{Message, READ_REQUEST_HEADER, TAGGED_HEADER, UNTAGGED_HEADER};
-use iw_queues::{Part, Request};
+use iw_queues::{Outgoing, Part, Request};
 use iw_reads::{ResponsePart, fetch};
 use iw_startup::Rtr;
 use std::alloc::Allocator;
 
 // The length of the ULPDU that carries a part.
-fn ulpdu_len<A: Allocator>(part: &Part<&Request<Bytes<A>>>) -> usize
+fn ulpdu_len<A: Allocator>(part: &Part<&Request<Outgoing<A>>>) -> usize
     requires within { part.now.offset + part.now.n ≤ length (payload part.now.message.now) }
     requires short { header_len part.now.message.now + part.now.n ≤ max_sent }
     ensures len { (numbers : Numbers) → result ≡ length (segment_octets (segment_of numbers (shown_part part.now))) }
