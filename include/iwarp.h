@@ -141,7 +141,7 @@ enum {
     IWARP_DOMAIN_TAKEN = 9,
     IWARP_NO_DOMAIN = 10, /* the domain was not added, or none can have this number */
     IWARP_DOMAIN_FULL = 11, /* it has 1,024 regions */
-    IWARP_REGION_TOO_LONG = 12, /* more than 16,777,216 octets */
+    IWARP_REGION_TOO_LONG = 12, /* more than 16,777,216 octets, or than 2^46 in memory that the program keeps */
     IWARP_BASE_WRAP = 13, /* base + n is above 2^64 */
     IWARP_NUMBER_TAKEN = 14, /* the stream's number was opened before */
     IWARP_BAD_NUMBER = 15, /* the number that was picked is above 63 */
@@ -324,7 +324,8 @@ struct iwarp_memory {
 };
 
 /* Registers memory that the program keeps, as a region that a struct describes: nothing is copied, and the struct `memory` has none
- * then. What a peer writes stands in that memory, and what it reads is read there. The library neither frees it nor moves it.
+ * then. What a peer writes stands in that memory, and what it reads is read there. The library neither frees it nor moves it. It may
+ * have 2^46 octets.
  *
  * The program keeps the memory as it is, all its octets readable and writable, until iwarp_deregister_memory hands it back, or the
  * region is deregistered or dropped, or the handle is freed. Until then it reads and writes it only as iwarp_region_at says, in no
@@ -549,6 +550,14 @@ int32_t iwarp_post(struct iwarp *handle, uint32_t stream, const struct iwarp_pos
  * iwarp_post_write_buffer does, with the same exception. The first that applies is told of IWARP_IS_CLOSED, IWARP_BUFFER_MISSING,
  * IWARP_BAD_STRUCT, IWARP_BAD_BITS, and IWARP_BAD_STRUCT again for a Read, which has no octets; then those of the stream. */
 int32_t iwarp_post_buffer(struct iwarp *handle, uint32_t stream, const struct iwarp_posting *posting, struct iwarp_buffer *buffer) IWARP_CHECKED;
+
+/* Posts the Send or Write that a struct describes of memory that the program keeps: its octets are copied into frames alone, as these
+ * are emitted, and the struct `memory` has none then. Until IWARP_DONE or IWARP_FLUSHED tells of this message, or the handle is freed,
+ * the program leaves them as they are, and neither registers nor posts any of them again; from then on they are the program's, and no
+ * call hands them back. They are never written, so they may be read-only. The first that applies is told of IWARP_IS_CLOSED,
+ * IWARP_BAD_STRUCT, IWARP_BAD_BITS, and IWARP_BAD_STRUCT again for a Read; then those of the stream, and IWARP_NO_MEMORY last. A call
+ * that is refused leaves `memory` as it is. */
+int32_t iwarp_post_memory(struct iwarp *handle, uint32_t stream, const struct iwarp_posting *posting, struct iwarp_memory *memory) IWARP_CHECKED;
 
 /* Posts a receive buffer of `n` octets, at most 16,777,216. A Send that finds no buffer ends the stream. */
 int32_t iwarp_post_recv(struct iwarp *handle, uint32_t stream, size_t n) IWARP_CHECKED;

@@ -157,6 +157,20 @@ static void compare(void) {
     must(n == MESSAGE && memcmp(answer, message, MESSAGE) == 0, "other octets came back");
 }
 
+/* The host sends the message from memory that the program keeps. */
+static void send_kept(void) {
+    struct iwarp_posting send = iwarp_posting_of(IWARP_MESSAGE_SEND);
+    struct iwarp_memory memory = {message, MESSAGE};
+    must(iwarp_post_memory(&host.handle, STREAM, &send, &memory) == IWARP_OK && memory.len == 0, "post_memory");
+    write_out(&host);
+    must(work(&host, IWARP_DONE), "the Send is not done");
+}
+
+static void receive_it(void) {
+    while (!read_in(&target, IWARP_RECEIVED)) {
+    }
+}
+
 /* ---- what is told */
 
 static int tell(const char *what, struct counts from, struct counts to) {
@@ -191,7 +205,13 @@ int main(int n, char **words) {
     struct counts after = counts;
     if (strcmp(how, "with") == 0) return 0;
     compare();
+    for (int i = 0; i < 2; i++) must(iwarp_post_recv(&target.handle, STREAM, MESSAGE) == IWARP_OK, "post_recv");
+    send_kept();
+    receive_it();
+    struct counts then = counts;
+    send_kept();
     int missed = tell("received and read in place", before, between);
     missed += tell("answered", between, after);
+    missed += tell("sent from memory that the program keeps", then, counts);
     return missed > 0;
 }

@@ -2,6 +2,14 @@
 use crate::error::done;
 use crate::{raw, Buffer, Handle, ReadRequest, Refused, Result, SendOptions, Stag, Stream};
 
+// The kinds of enum iwarp_message.
+const WRITE: u32 = 1;
+const SEND: u32 = 2;
+
+fn posting() -> raw::iwarp_posting {
+    raw::iwarp_posting { size: std::mem::size_of::<raw::iwarp_posting>(), ..Default::default() }
+}
+
 /// ## Posting
 ///
 /// Messages are taken on a stream that is open. `token` is any number of the program's: the event has it that tells that the message
@@ -59,6 +67,56 @@ impl Handle {
             // SAFETY: handle and buffer are as the last calls on them left them.
             unsafe { raw::iwarp_post_write_buffer(handle, stream.number(), stag.number(), to, buffer, token) }
         })
+    }
+
+    /// Posts a Send of `n` octets at `at`, in memory that the program keeps: they are copied into frames alone, as these are emitted.
+    /// With no octets `at` may be null.
+    ///
+    /// Errors: as [`post_send`](Handle::post_send), but `NoMemory` comes last.
+    ///
+    /// # Safety
+    ///
+    /// From this call, if it is not refused, until an event tells that the message is done or flushed, or the handle is gone, the octets
+    /// are there and stay as they are, were written once, and are no longer than `isize::MAX`.
+    pub unsafe fn post_send_memory(
+        &mut self,
+        stream: Stream,
+        at: *const u8,
+        n: usize,
+        options: SendOptions,
+        token: u64,
+    ) -> Result<()> {
+        let (flags, stag) = options.in_c();
+        let flags = u64::from(flags);
+        // SAFETY: of the memory the caller says so.
+        unsafe { self.post_kept(stream, raw::iwarp_posting { kind: SEND, flags, stag, token, ..posting() }, at, n) }
+    }
+
+    /// Posts a Write of `n` octets at `at`, in memory that the program keeps, as [`post_send_memory`](Handle::post_send_memory) does.
+    ///
+    /// Errors: as there.
+    ///
+    /// # Safety
+    ///
+    /// As there.
+    pub unsafe fn post_write_memory(
+        &mut self,
+        stream: Stream,
+        stag: Stag,
+        to: u64,
+        at: *const u8,
+        n: usize,
+        token: u64,
+    ) -> Result<()> {
+        let stag = stag.number();
+        // SAFETY: of the memory the caller says so.
+        unsafe { self.post_kept(stream, raw::iwarp_posting { kind: WRITE, stag, to, token, ..posting() }, at, n) }
+    }
+
+    unsafe fn post_kept(&mut self, stream: Stream, posting: raw::iwarp_posting, at: *const u8, n: usize) -> Result<()> {
+        let mut memory = raw::iwarp_memory { at: at.cast_mut(), len: n };
+        // SAFETY: the handle is as the last call on it left it; the library only reads the memory; the others are locals.
+        done(unsafe { raw::iwarp_post_memory(self.at(), stream.number(), &posting, &mut memory) })
     }
 
     /// Posts a Read, from a region of the peer into one of this end.

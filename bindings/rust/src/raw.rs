@@ -533,6 +533,12 @@ functions! {
         posting: *const iwarp_posting,
         buffer: *mut iwarp_buffer,
     ) -> i32;
+    fn iwarp_post_memory(
+        handle: *mut iwarp,
+        stream: u32,
+        posting: *const iwarp_posting,
+        memory: *mut iwarp_memory,
+    ) -> i32;
     fn iwarp_post_recv(handle: *mut iwarp, stream: u32, n: usize) -> i32;
     fn iwarp_post_recv_buffer(handle: *mut iwarp, stream: u32, buffer: *mut iwarp_buffer) -> i32;
     fn iwarp_share(handle: *mut iwarp, pd: u32) -> i32;

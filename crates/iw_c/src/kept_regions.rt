@@ -2,9 +2,9 @@
 ghost use Rattle.std.specs.Prelude.{◌≡◌, ◌≢◌, ◌⊎◌, pos, Some, [], length, IfSome, IfNone};
 ghost use Rattle.iw_octets.specs.Stag.{number_of, stag_of};
 ghost use Rattle.iw_endpoint.specs.Endpoint.{deregistered, octets_of};
-ghost use Rattle.iw_handle.specs.KeptRegions.{kept_as, refusal_to_hand_back};
+ghost use Rattle.iw_handle.specs.KeptRegions.{kept_as, refusal_to_keep_as, refusal_to_hand_back};
 ghost use Rattle.iw_handle.specs.Refusals.{code_of, refusal_code};
-ghost use Rattle.iw_handle.specs.Registering.{refusal_to_register_as, stag_as};
+ghost use Rattle.iw_handle.specs.Registering.{stag_as};
 ghost use Rattle.iw_handle.specs.State.{refusal_in, changed, told_in, shown_in};
 
 use iw_handle::{Handle, Registration, code, stag_of};
@@ -21,10 +21,10 @@ pub extern "C" fn iwarp_register_memory(
     stag: &mut u32,
 ) -> i32
     ensures refused { IfSome (refusal_in handle.old.state
-        (λ e. refusal_to_register_as e registration.now (length memory.old.octets)))
+        (λ e. refusal_to_keep_as e registration.now (length memory.old.octets)))
         (λ r. result ≡ pos (refusal_code r)) }
     ensures memory { IfNone (refusal_in handle.old.state
-        (λ e. refusal_to_register_as e registration.now (length memory.old.octets)))
+        (λ e. refusal_to_keep_as e registration.now (length memory.old.octets)))
         ((result ≡ pos 0) ⊎ (result ≡ pos 3)) }
     ensures stag { result ≡ pos 0 → Some stag.new ≡ told_in handle.old.state
         (λ e. number_of (stag_as e registration.now)) }

@@ -11,6 +11,7 @@ mod lending;
 mod octets;
 mod pools;
 mod posting;
+mod posting_memory;
 mod receiving;
 mod regions;
 mod registering;
@@ -44,6 +45,7 @@ pub use octets::{
 };
 pub use pools::{iwarp_open_shared, iwarp_post_shared, iwarp_share};
 pub use posting::{iwarp_post_read, iwarp_post_recv, iwarp_post_send, iwarp_post_write};
+pub use posting_memory::iwarp_post_memory;
 pub use receiving::{
     iwarp_fetch_buffer, iwarp_post_recv_buffer, iwarp_post_shared_buffer, iwarp_take_shared_buffer,
 };

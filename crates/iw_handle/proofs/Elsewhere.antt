@@ -6,7 +6,8 @@ use Rattle.std.proofs.lemmas.Bool.{false≢true}
 use Rattle.std.proofs.lemmas.List.{get_or-set_other}
 use Rattle.iw_octets.specs.declared.fault.Fault.{Fault}
 use Rattle.iw_memory.specs.Forms.{own_refusal, kept_refusal}
-use Rattle.iw_memory.specs.Table.{Table, register_refusal}
+use Rattle.iw_memory.specs.Region.{most_octets}
+use Rattle.iw_memory.specs.Table.{Table, register_refusal, register_refusal_within}
 use Rattle.iw_queues.specs.Queue.{done_in, oldest_in}
 use Rattle.iw_untagged.specs.Receiving.{Receiving, Source, Posted, Pooled, first_buffer, seeing}
 use Rattle.iw_stream.specs.declared.answer.Step.{Step}
@@ -22,7 +23,7 @@ use Rattle.iw_stream.specs.Starting.{is_open, awaits_frame, progress_in, first_p
 use Rattle.iw_stream.specs.Stream.{StreamState, ended, due, is_none_due}
 use Rattle.iw_stream.specs.Work.{Task, HandOut, GiveUp, GiveBack, Hear, Turn, Clash, Judge, Try, Rest, clash_fault, task, frame_task, inbox, standing, heard_step, turned_step, judged_step, tried_step, step_of, work_step}
 use Rattle.iw_endpoint.specs.declared.refusal.NoSuchStream.{NoSuchStream}
-use Rattle.iw_endpoint.specs.Endpoint.{EndpointState, Pool, pool_of, lent_to, stream_of, unopened, answer_at, after_work, new_stream, new_shared, answer_refusal, post_refusal, recv_refusal, first_refusal, close_refusal, limit_refusal, size_refusal, domain_refusal, store_refusal, open_refusal, share_refusal, pool_refusal, take_refusal, open_shared_refusal, next_refusal, next_shared_refusal, opened_next, opened_shared_next}
+use Rattle.iw_endpoint.specs.Endpoint.{EndpointState, Pool, pool_of, lent_to, stream_of, unopened, answer_at, after_work, new_stream, new_shared, answer_refusal, post_refusal, recv_refusal, first_refusal, close_refusal, limit_refusal, limit_refusal_within, size_refusal, domain_refusal, store_refusal, open_refusal, share_refusal, pool_refusal, take_refusal, open_shared_refusal, next_refusal, next_shared_refusal, opened_next, opened_shared_next}
 use Rattle.iw_endpoint.specs.Sharing.{has_fewer, after_work_alone, after_work_within}
 use Rattle.iw_endpoint.specs.Isolation.{StreamCall, Accept, Reject, Post, PostRecv, FirstNumber, Deliver, Work, WorkWithin, Emit, BreakLink, Close, RegisterFor, RegisterDrawnFor, RegisterOctetsFor, RegisterOctetsDrawnFor, SetMulpdu, Private, Told, PeerOptions, Standing, HasDue, PeerFirst, Sent, DueLen, InOrderPoint, BoundBuffers, Limits, Call, AddDomain, Register, RegisterDrawn, RegisterOctets, RegisterOctetsDrawn, Deregister, DeregisterKept, TakeRegion, Invalidate, Store, Facts, Local, LocalMut, Open, Share, PostShared, TakeShared, OpenShared, OpenNext, OpenSharedNext, AtStream, after, after_stream, unless, if_there}
 use Rattle.iw_endpoint.proofs.Filled.{put_is}
@@ -63,8 +64,8 @@ at_other e m n BreakLink ne = same_there (stream_of e m) e _ n (other e m n _ ne
 at_other e m n Close ne = same_unless (close_refusal e m) e _ n (other e m n _ ne)
 at_other e m n (RegisterFor base octets rights) ne = same_unless (limit_refusal e m base _) e _ n refl
 at_other e m n (RegisterDrawnFor base octets rights drawn) ne = same_unless (limit_refusal e m base _) e _ n refl
-at_other e m n (RegisterOctetsFor base octets kept rights) ne = same_unless (limit_refusal e m base _) e _ n refl
-at_other e m n (RegisterOctetsDrawnFor base octets kept rights drawn) ne = same_unless (limit_refusal e m base _) e _ n refl
+at_other e m n (RegisterOctetsFor base octets kept rights) ne = same_unless (limit_refusal_within (most_octets kept) e m base _) e _ n refl
+at_other e m n (RegisterOctetsDrawnFor base octets kept rights drawn) ne = same_unless (limit_refusal_within (most_octets kept) e m base _) e _ n refl
 at_other e m n (SetMulpdu size) ne = same_unless (size_refusal e m size) e _ n (other e m n _ ne)
 at_other e m n Private ne = refl
 at_other e m n Told ne = refl
@@ -86,8 +87,8 @@ same : (e : EndpointState) (n : ℕ) (call : Call) → IsElsewhere n call → st
 same e n (AddDomain pd) away = same_unless (domain_refusal e pd) e _ n refl
 same e n (Register pd base octets rights) away = same_unless (register_refusal e.table pd base _) e _ n refl
 same e n (RegisterDrawn pd base octets rights drawn) away = same_unless (register_refusal e.table pd base _) e _ n refl
-same e n (RegisterOctets pd base octets kept rights) away = same_unless (register_refusal e.table pd base _) e _ n refl
-same e n (RegisterOctetsDrawn pd base octets kept rights drawn) away = same_unless (register_refusal e.table pd base _) e _ n refl
+same e n (RegisterOctets pd base octets kept rights) away = same_unless (register_refusal_within (most_octets kept) e.table pd base _) e _ n refl
+same e n (RegisterOctetsDrawn pd base octets kept rights drawn) away = same_unless (register_refusal_within (most_octets kept) e.table pd base _) e _ n refl
 same e n (Deregister stag) away = same_unless (own_refusal e.table stag) e _ n refl
 same e n (DeregisterKept stag) away = same_unless (kept_refusal e.table stag) e _ n refl
 same e n (TakeRegion stag) away = refl

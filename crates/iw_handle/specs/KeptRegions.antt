@@ -4,13 +4,14 @@ use Rattle.std.specs.Option.{option_map}
 use Rattle.iw_octets.specs.declared.stag.Stag.{Stag}
 use Rattle.iw_memory.specs.declared.refusal.DeregisterRefusal.{DeregisterRefusal}
 use Rattle.iw_memory.specs.Forms.{own_refusal, kept_refusal}
-use Rattle.iw_memory.specs.Region.{Region, new_region}
+use Rattle.iw_memory.specs.Region.{Region, new_region, most_octets}
 use Rattle.iw_memory.specs.Table as tables
 use Rattle.iw_endpoint.specs.Endpoint.{EndpointState, stream_at, with_table}
 use Rattle.iw_handle.specs.declared.refusal.Refusal.{Refusal}
 use Rattle.iw_handle.specs.declared.structs.Registration.{Registration}
 use Rattle.iw_handle.specs.Refusals.{deregister_reason}
-use Rattle.iw_handle.specs.Registering.{is_limited, is_drawn}
+use Rattle.iw_handle.specs.Registering.{is_limited, is_drawn, registration_refusal, described_refusal_within}
+use Rattle.iw_handle.specs.State.{first_of}
 use Rattle.iw_handle.specs.Words.{domain_number, rights_of}
 
 -- a region of this memory, limited to a stream or not
@@ -28,6 +29,10 @@ abbrev pub kept_as : EndpointState → Registration → List ℕ → EndpointSta
 kept_as e r octets =
     if is_limited r then kept_within e r (stream_at e r.stream).domain (Some r.stream) octets
     else kept_within e r (domain_number r.pd) None octets
+
+-- why n octets are not registered so
+abbrev pub refusal_to_keep_as : EndpointState → Registration → ℕ → Option Refusal
+refusal_to_keep_as e r n = first_of (registration_refusal r) (described_refusal_within (most_octets true) e r n)
 
 -- why a region's octets are not moved to a buffer
 abbrev pub refusal_to_move : EndpointState → Stag → Option Refusal

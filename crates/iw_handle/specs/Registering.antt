@@ -1,9 +1,10 @@
 -- Registering a region that a struct describes.
-use Rattle.std.specs.Prelude.{ℕ, List, Bool, if◌then◌else◌, Option}
+use Rattle.std.specs.Prelude.{ℕ, List, Bool, false, if◌then◌else◌, Option}
 use Rattle.std.specs.Option.{option_map}
 use Rattle.iw_octets.specs.declared.stag.Stag.{Stag}
-use Rattle.iw_memory.specs.Table.{register_refusal, next_stag, drawn_stag}
-use Rattle.iw_endpoint.specs.Endpoint.{EndpointState, stream_at, limit_refusal, registered, limited}
+use Rattle.iw_memory.specs.Region.{most_octets}
+use Rattle.iw_memory.specs.Table.{register_refusal_within, next_stag, drawn_stag}
+use Rattle.iw_endpoint.specs.Endpoint.{EndpointState, stream_at, limit_refusal_within, registered, limited}
 use Rattle.iw_endpoint.specs.Drawing.{registered_drawn, limited_drawn}
 use Rattle.iw_codes.specs.declared.numbers.TheConstants as numbers
 use Rattle.iw_handle.specs.declared.refusal.Refusal.{Refusal}
@@ -26,11 +27,14 @@ abbrev pub registration_refusal : Registration → Option Refusal
 registration_refusal r =
     first_of (struct_refusal sizes.REGISTRATION_SIZE r.size) (first_of (bits_refusal 4 r.flags) (bits_refusal 16 r.rights))
 
--- why the endpoint does not register n octets so
+-- why the endpoint does not register n octets so, if a region may have `most`
+abbrev pub described_refusal_within : ℕ → EndpointState → Registration → ℕ → Option Refusal
+described_refusal_within most e r n =
+    if is_limited r then option_map limit_reason (limit_refusal_within most e r.stream r.base n)
+    else option_map register_reason (register_refusal_within most e.table (domain_number r.pd) r.base n)
+
 abbrev pub described_refusal : EndpointState → Registration → ℕ → Option Refusal
-described_refusal e r n =
-    if is_limited r then option_map limit_reason (limit_refusal e r.stream r.base n)
-    else option_map register_reason (register_refusal e.table (domain_number r.pd) r.base n)
+described_refusal e r n = described_refusal_within (most_octets false) e r n
 
 abbrev pub refusal_to_register_as : EndpointState → Registration → ℕ → Option Refusal
 refusal_to_register_as e r n = first_of (registration_refusal r) (described_refusal e r n)

@@ -2,10 +2,12 @@
 ghost use Rattle.std.specs.Prelude.{◌≡◌, true, None, Some, [], length, IfSome, IfNone, IfOk, IfErr, IsErr, OnOk, OnErr};
 ghost use Rattle.std.specs.Result.{result_err};
 ghost use Rattle.iw_kept.specs.Octets.{octets_of as octets_in, is_kept};
-ghost use Rattle.iw_memory.specs.Table.{register_refusal};
-ghost use Rattle.iw_endpoint.specs.Endpoint.{stream_at, limit_refusal, octets_of, deregistered};
-ghost use Rattle.iw_handle.specs.KeptRegions.{kept_within, kept_as, refusal_to_hand_back};
-ghost use Rattle.iw_handle.specs.Registering.{described_refusal, refusal_to_register_as, stag_within, stag_as};
+ghost use Rattle.iw_memory.specs.Forms.{octets_refusal};
+ghost use Rattle.iw_memory.specs.Region.{most_octets};
+ghost use Rattle.iw_endpoint.specs.Endpoint.{stream_at, octets_of, deregistered};
+ghost use Rattle.iw_endpoint.specs.KeptRegions.{limited_refusal};
+ghost use Rattle.iw_handle.specs.KeptRegions.{kept_within, kept_as, refusal_to_keep_as, refusal_to_hand_back};
+ghost use Rattle.iw_handle.specs.Registering.{described_refusal_within, stag_within, stag_as};
 ghost use Rattle.iw_handle.specs.State.{refusal_in, changed, told_in, shown_in};
 ghost use Rattle.iw_handle.specs.Words.{domain_number};
 
@@ -25,10 +27,12 @@ fn register_in(
     octets: RegionOctets,
 ) -> Result<Stag, (RegisterRefusal, RegionOctets)>
     requires { is_kept octets ≡ true }
-    ensures refused { IfSome (register_refusal endpoint.old.table (domain_number registration.now.pd)
-        registration.now.base (length (octets_in octets))) (λ refusal. IfErr result (λ e. e.0 ≡ refusal) × IsErr result) }
-    ensures memory { IfNone (register_refusal endpoint.old.table (domain_number registration.now.pd)
-        registration.now.base (length (octets_in octets))) (IfErr result (λ e. e.0 ≡ RegisterRefusal.NoMemory)) }
+    ensures refused { IfSome
+        (octets_refusal endpoint.old.table (domain_number registration.now.pd) registration.now.base octets)
+        (λ refusal. IfErr result (λ e. e.0 ≡ refusal) × IsErr result) }
+    ensures memory { IfNone
+        (octets_refusal endpoint.old.table (domain_number registration.now.pd) registration.now.base octets)
+        (IfErr result (λ e. e.0 ≡ RegisterRefusal.NoMemory)) }
     ensures back { IfErr result (λ e. e.1 ≡ octets) }
     ensures err { OnErr result (endpoint.new ≡ endpoint.old) }
     ensures stag { IfOk result
@@ -53,10 +57,11 @@ fn register_for(
     octets: RegionOctets,
 ) -> Result<Stag, (CallRefusal<LimitRefusal>, RegionOctets)>
     requires { is_kept octets ≡ true }
-    ensures refused { IfSome (limit_refusal endpoint.old registration.now.stream registration.now.base
-        (length (octets_in octets))) (λ refusal. IfErr result (λ e. e.0 ≡ refusal) × IsErr result) }
-    ensures memory { IfNone (limit_refusal endpoint.old registration.now.stream registration.now.base
-        (length (octets_in octets)))
+    ensures refused { IfSome
+        (limited_refusal endpoint.old registration.now.stream registration.now.base octets)
+        (λ refusal. IfErr result (λ e. e.0 ≡ refusal) × IsErr result) }
+    ensures memory { IfNone
+        (limited_refusal endpoint.old registration.now.stream registration.now.base octets)
         (IfErr result (λ e. e.0 ≡ CallRefusal.Refused (LimitRefusal.Refused RegisterRefusal.NoMemory))) }
     ensures back { IfErr result (λ e. e.1 ≡ octets) }
     ensures err { OnErr result (endpoint.new ≡ endpoint.old) }
@@ -81,9 +86,9 @@ fn register_described(
     octets: RegionOctets,
 ) -> Result<Stag, (Refusal, RegionOctets)>
     requires { is_kept octets ≡ true }
-    ensures refused { IfSome (described_refusal endpoint.old registration.now (length (octets_in octets)))
+    ensures refused { IfSome (described_refusal_within (most_octets (is_kept octets)) endpoint.old registration.now (length (octets_in octets)))
         (λ refusal. IfErr result (λ e. e.0 ≡ refusal) × IsErr result) }
-    ensures memory { IfNone (described_refusal endpoint.old registration.now (length (octets_in octets)))
+    ensures memory { IfNone (described_refusal_within (most_octets (is_kept octets)) endpoint.old registration.now (length (octets_in octets)))
         (IfErr result (λ e. e.0 ≡ Refusal.NoMemory)) }
     ensures back { IfErr result (λ e. e.1 ≡ octets) }
     ensures err { OnErr result (endpoint.new ≡ endpoint.old) }
@@ -110,9 +115,9 @@ fn register_this(
     memory: &mut Kept,
 ) -> Result<Stag, Refusal>
     // The first refusal that applies; if none does, only `NoMemory`.
-    ensures refused { IfSome (refusal_to_register_as endpoint.old registration.now (length memory.old.octets))
+    ensures refused { IfSome (refusal_to_keep_as endpoint.old registration.now (length memory.old.octets))
         (λ r. result ≡ Err r) }
-    ensures memory { IfNone (refusal_to_register_as endpoint.old registration.now (length memory.old.octets))
+    ensures memory { IfNone (refusal_to_keep_as endpoint.old registration.now (length memory.old.octets))
         (IfErr result (λ e. e ≡ Refusal.NoMemory)) }
     ensures stag { IfOk result (λ stag. stag ≡ stag_as endpoint.old registration.now) }
     ensures ok { OnOk result (endpoint.new ≡ kept_as endpoint.old registration.now memory.old.octets) }
@@ -150,8 +155,8 @@ fn deregister_this(endpoint: &mut Endpoint, stag: Stag, memory: &mut Kept) -> Re
 
 impl Handle {
     /// Registers memory that the program keeps, as a struct describes it ([`Handle::register_as`]): nothing is copied. Until the
-    /// program has it back, by [`Handle::deregister_memory`], it leaves the memory to the endpoint. An `Err` changes nothing.
-    /// `NoMemory` comes only if no other refusal applies.
+    /// program has it back, by [`Handle::deregister_memory`], it leaves the memory to the endpoint. It may have up to 2^46
+    /// octets. An `Err` changes nothing. `NoMemory` comes only if no other refusal applies.
     pub fn register_memory(
         &mut self,
         alloc: Global,
@@ -159,10 +164,10 @@ impl Handle {
         memory: &mut Kept,
     ) -> Result<Stag, Refusal>
         ensures refused { IfSome
-            (refusal_in self.old.state (λ e. refusal_to_register_as e registration.now (length memory.old.octets)))
+            (refusal_in self.old.state (λ e. refusal_to_keep_as e registration.now (length memory.old.octets)))
             (λ r. result ≡ Err r) }
         ensures memory { IfNone
-            (refusal_in self.old.state (λ e. refusal_to_register_as e registration.now (length memory.old.octets)))
+            (refusal_in self.old.state (λ e. refusal_to_keep_as e registration.now (length memory.old.octets)))
             (IfErr result (λ e. e ≡ Refusal.NoMemory)) }
         ensures stag { IfOk result (λ stag. Some stag ≡ told_in self.old.state (λ e. stag_as e registration.now)) }
         ensures ok { OnOk result

@@ -16,6 +16,7 @@ mod marking;
 mod open_handle;
 mod pools;
 mod posting;
+mod posting_memory;
 mod receiving;
 mod refusal;
 mod regions;

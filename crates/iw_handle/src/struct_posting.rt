@@ -58,7 +58,7 @@ fn check_no_read(kind: u32) -> Result<(), Refusal>
     }
 }
 
-fn check_posting_from(posting: &Posting) -> Result<(), Refusal>
+pub(crate) fn check_posting_from(posting: &Posting) -> Result<(), Refusal>
     ensures { result_err result ≡ posting_from_refusal posting.now }
 {
     check_posting(posting)?;
