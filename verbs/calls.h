@@ -37,7 +37,7 @@ void notice_forget(struct notice *notice);
 /* memory.c; locked: the domain */
 struct region *region_find(struct domain *domain, uint32_t lkey);
 uint8_t *region_octets(struct domain *domain, const struct ibv_sge *place, unsigned access);
-int region_sink(struct domain *domain, const struct ibv_sge *place, uint64_t from, uint32_t *stag, uint64_t *n);
+int region_sink(struct domain *domain, const struct ibv_sge *place, uint32_t *stag);
 void domain_release(struct domain *domain); /* not locked */
 struct ibv_pd *default_pd(void); /* of identifiers without one; locked: the manager */
 

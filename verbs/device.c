@@ -33,7 +33,7 @@ int ibv_query_port(struct ibv_context *verbs, uint8_t port, struct _compat_ibv_p
 
 int ibv_query_device(struct ibv_context *verbs, struct ibv_device_attr *attr) {
     (void)verbs;
-    *attr = (struct ibv_device_attr){.node_guid = 1, .sys_image_guid = 1, .max_mr_size = MOST_OCTETS, .page_size_cap = 4096,
+    *attr = (struct ibv_device_attr){.node_guid = 1, .sys_image_guid = 1, .max_mr_size = (uint64_t)1 << 46, .page_size_cap = 4096,
         .vendor_id = 1, .vendor_part_id = 1, .max_qp = 65536, .max_qp_wr = MOST_WR, .max_sge = MOST_SGE, .max_sge_rd = 1,
         .max_cq = 65536, .max_cqe = MOST_CQE, .max_mr = 262144, .max_pd = 65536, .max_qp_rd_atom = MOST_READS,
         .max_res_rd_atom = 65536, .max_qp_init_rd_atom = MOST_READS, .atomic_cap = IBV_ATOMIC_NONE, .max_srq = 65536,

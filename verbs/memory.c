@@ -75,72 +75,44 @@ static unsigned rights_of(unsigned access) {
            (access & IBV_ACCESS_LOCAL_WRITE ? IWARP_SINK : 0) | (access & OF_PEERS ? IWARP_INVALIDATE : 0);
 }
 
-/* Registers memory with the library, by an STag that is drawn. */
-static int32_t register_part(struct domain *domain, uint8_t *at, size_t n, uint64_t base, unsigned rights, uint32_t *stag) {
-    struct iwarp_registration registration = {.size = sizeof registration, .flags = IWARP_DRAWN, .base = base, .pd = DOMAIN,
+/* Registers a region's memory with the library, by an STag that is drawn. */
+static int32_t region_register(struct domain *domain, struct region *region, unsigned rights) {
+    struct iwarp_registration registration = {.size = sizeof registration, .flags = IWARP_DRAWN, .base = region->base, .pd = DOMAIN,
                                               .rights = rights};
-    struct iwarp_memory memory = {at, n};
+    struct iwarp_memory memory = {region->mr.addr, region->mr.length};
     if (getrandom(&registration.drawn, sizeof registration.drawn, 0) != (ssize_t)sizeof registration.drawn) return IWARP_NO_MEMORY;
-    int32_t code = iwarp_register_memory(&domain->handle, &registration, &memory, stag);
-    if (code != IWARP_OK) LOG("%zu octets are not registered: %s\n", n, iwarp_text(code));
+    int32_t code = iwarp_register_memory(&domain->handle, &registration, &memory, &region->stag);
+    region->is_registered = code == IWARP_OK;
+    if (code != IWARP_OK) LOG("%zu octets are not registered: %s\n", region->mr.length, iwarp_text(code));
     return code;
 }
 
-/* Registers what Reads may be placed in, of local memory: a region for each MOST_OCTETS. */
-static int register_sinks(struct domain *domain, struct region *region) {
-    size_t n = region->mr.length / MOST_OCTETS + 1;
-    if (region->stags) return 0;
-    region->stags = calloc(n, sizeof *region->stags);
-    if (!region->stags) return -1;
-    for (uint64_t from = 0; from < region->mr.length; from += MOST_OCTETS) {
-        uint64_t left = region->mr.length - from;
-        if (register_part(domain, (uint8_t *)region->mr.addr + from, left < MOST_OCTETS ? left : MOST_OCTETS, region->base + from,
-                          IWARP_SINK, &region->stags[region->n_stags]) != IWARP_OK)
-            return -1;
-        region->n_stags++;
-    }
-    return 0;
-}
-
-/* Where a Read is placed, from octet `from` of its place on: the region's STag, and how many octets lie in it. -1: none has room. */
-int region_sink(struct domain *domain, const struct ibv_sge *place, uint64_t from, uint32_t *stag, uint64_t *n) {
+/* Where a Read is placed: the region's STag. -1: there is none. */
+int region_sink(struct domain *domain, const struct ibv_sge *place, uint32_t *stag) {
     struct region *region = region_find(domain, place->lkey);
-    *n = place->length - from;
     *stag = place->lkey;
     if (!region || region->access & OF_PEERS) return 0;
-    if (register_sinks(domain, region) < 0 && region->n_stags == 0) return -1;
-    uint64_t offset = place->addr - region->base + from, part = offset / MOST_OCTETS, left = MOST_OCTETS - offset % MOST_OCTETS;
-    if (part >= region->n_stags) return *n ? -1 : 0;
-    *stag = region->stags[part];
-    if (*n > left) *n = left;
+    if (!region->is_registered && region_register(domain, region, IWARP_SINK) != IWARP_OK) return -1;
+    *stag = region->stag;
     return 0;
 }
 
 /* ---- regions */
 
 static void unregister(struct domain *domain, struct region *region) {
-    for (size_t i = 0; i < region->n_stags; i++) {
-        struct iwarp_memory memory = {0};
-        must(iwarp_deregister_memory(&domain->handle, region->stags[i], &memory), "iwarp_deregister_memory");
-    }
-    free(region->stags);
+    struct iwarp_memory memory = {0};
+    if (region->is_registered) must(iwarp_deregister_memory(&domain->handle, region->stag, &memory), "iwarp_deregister_memory");
 }
 
 /* Gives a region its keys. Locked: the domain. */
 static int region_name(struct domain *domain, struct region *region) {
     struct ibv_mr *mr = &region->mr;
-    int too_long = mr->length > MOST_OCTETS;
-    if (too_long && context.settings.big_local) region->access &= ~(unsigned)OF_PEERS; /* peers that name it are refused */
     if (!(region->access & OF_PEERS)) {
         mr->lkey = mr->rkey = domain->next_key++;
         return 0;
     }
-    if (too_long) fprintf(stderr, "iwarp-verbs: a region of %zu octets: peers may use %d at most\n", mr->length, MOST_OCTETS);
-    region->stags = too_long ? NULL : malloc(sizeof *region->stags);
-    if (!region->stags || register_part(domain, mr->addr, mr->length, region->base, rights_of(region->access), region->stags) != IWARP_OK)
-        return failed(ENOMEM);
-    region->n_stags = 1;
-    mr->lkey = mr->rkey = region->stags[0];
+    if (region_register(domain, region, rights_of(region->access)) != IWARP_OK) return failed(ENOMEM);
+    mr->lkey = mr->rkey = region->stag;
     return 0;
 }
 
@@ -164,7 +136,6 @@ static struct ibv_mr *region_new(struct ibv_pd *pd, void *addr, size_t length, u
     }
     pthread_mutex_unlock(&domain->lock);
     if (code == 0) return &region->mr;
-    free(region->stags);
     free(region);
     return NULL;
 }

@@ -45,7 +45,7 @@
 
 enum {
     DOMAIN = 1, /* each ibv_pd has a handle of its own, with one domain */
-    MOST_OCTETS = 16777216, /* iwarp.h: of a region, and of a message */
+    MOST_OCTETS = 16777216, /* iwarp.h: of a message */
     MOST_MESSAGES = 256, /* iwarp.h: posted to a stream */
     MOST_READS = 16,
     MOST_WR = 16384,
@@ -76,15 +76,15 @@ struct pair;
 
 /* ---- memory */
 
-/* A region of up to MOST_OCTETS that a peer may use has one STag, which is its lkey and rkey. One for local use has an lkey of the
- * domain's own, and STags, one for each MOST_OCTETS, once a Read is posted to it. */
+/* A region that a peer may use has an STag, which is its lkey and rkey. One for local use has an lkey of the domain's own, and an STag
+ * once a Read is posted to it. */
 struct region {
     struct ibv_mr mr;
     struct region *next; /* in its row */
     uint64_t base; /* what addresses its first octet, with lkey and rkey */
     unsigned access;
-    uint32_t *stags;
-    size_t n_stags;
+    uint32_t stag;
+    int is_registered;
 };
 
 struct spare { /* a receive buffer of the library's that waits for use */
@@ -287,7 +287,7 @@ struct identifier {
 /* ---- the context: all that is not of an object */
 
 struct settings {
-    int log, crc, peer_to_peer, big_local, as_roce, pause_ms, mulpdu, threads;
+    int log, crc, peer_to_peer, as_roce, pause_ms, mulpdu, threads;
     struct in_addr address;
 };
 

@@ -102,7 +102,7 @@ static enum step describe(struct pair *pair, struct send *send, struct iwarp_pos
     switch (send->opcode) {
     case IBV_WR_RDMA_READ:
         posting->kind = IWARP_MESSAGE_READ;
-        if (send->n && region_sink((struct domain *)pair->qp.qp_base.pd, &send->places[0], send->posted, &posting->sink, n) < 0) {
+        if (send->n && region_sink((struct domain *)pair->qp.qp_base.pd, &send->places[0], &posting->sink) < 0) {
             send->fault = IBV_WC_LOC_QP_OP_ERR;
             return AT_FAULT;
         }

@@ -40,7 +40,6 @@ static void read_variable(struct settings *settings, const char *name, const cha
         {"IWARP_VERBS_LOG", &settings->log, 0, 1},
         {"IWARP_VERBS_CRC", &settings->crc, 0, 1},
         {"IWARP_VERBS_P2P", &settings->peer_to_peer, 0, 1},
-        {"IWARP_VERBS_BIG_LOCAL", &settings->big_local, 0, 1},
         {"IWARP_VERBS_PAUSE", &settings->pause_ms, 0, 10000},
         {"IWARP_VERBS_MULPDU", &settings->mulpdu, 128, MOST_MULPDU},
         {"IWARP_VERBS_THREADS", &settings->threads, 1, MOST_THREADS},

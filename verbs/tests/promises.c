@@ -179,22 +179,30 @@ static void short_receive(void) {
 
 /* ---- memory */
 
-/* Reads into a region for local use of more octets than peers may use, over the places where it is cut. */
-static void long_local(void) {
+/* Reads into a long region for local use, and a peer's Writes into one, around each 16 MiB. */
+static void long_regions(void) {
     struct pair pair = connected(qp_attr());
     uint8_t *at = calloc(1, BIG);
-    struct ibv_mr *mr;
+    uint8_t *far = calloc(1, BIG);
+    struct ibv_mr *mr, *far_mr;
     MUST(at && (mr = ibv_reg_mr(pair.client->pd, at, BIG, IBV_ACCESS_LOCAL_WRITE)));
+    MUST(far && (far_mr = ibv_reg_mr(pair.server->pd, far, BIG, IBV_ACCESS_LOCAL_WRITE | IBV_ACCESS_REMOTE_WRITE | IBV_ACCESS_REMOTE_READ)));
     for (int i = 0; i < OCTETS; i++) pair.theirs[i] = (uint8_t)(i * 31);
     for (uint32_t from = LIMIT - 100; from < BIG - OCTETS; from += LIMIT) {
         post(pair.client, IBV_WR_RDMA_READ, place(at + from, OCTETS, mr->lkey), (uintptr_t)pair.theirs, pair.their_mr->rkey);
         sent(pair.client, IBV_WC_SUCCESS);
         MUST(!memcmp(at + from, pair.theirs, OCTETS) && at[from - 1] == 0 && at[from + OCTETS] == 0);
+        post(pair.client, IBV_WR_RDMA_WRITE, place(at + from, OCTETS, mr->lkey), (uintptr_t)far + from, far_mr->rkey);
+        sent(pair.client, IBV_WC_SUCCESS);
+        post(pair.client, IBV_WR_RDMA_READ, place(at, OCTETS, mr->lkey), (uintptr_t)far + from, far_mr->rkey);
+        sent(pair.client, IBV_WC_SUCCESS);
+        MUST(!memcmp(far + from, pair.theirs, OCTETS) && far[from - 1] == 0 && far[from + OCTETS] == 0 && !memcmp(at, far + from, OCTETS));
     }
-    MUST(!ibv_reg_mr(pair.client->pd, at, BIG, IBV_ACCESS_REMOTE_READ) && errno == ENOMEM);
     ibv_dereg_mr(mr);
+    ibv_dereg_mr(far_mr);
     close_all(&pair);
     free(at);
+    free(far);
 }
 
 /* ---- ends */
@@ -345,7 +353,7 @@ static const struct {
     void (*run)(void);
 } cases[] = {
     {"lkey-of-send", lkey_of_send}, {"lkey-of-receive", lkey_of_receive}, {"rkey", rkey}, {"full-cq", full_cq},
-    {"late-receives", late_receives}, {"short-receive", short_receive}, {"long-local", long_local}, {"disconnect", disconnect},
+    {"late-receives", late_receives}, {"short-receive", short_receive}, {"long-regions", long_regions}, {"disconnect", disconnect},
     {"exits", exits}, {"killed", killed}, {"silent-peer", silent_peer}, {"late-listener", late_listener},
     {"no-peer", no_peer},
 };
