@@ -90,7 +90,7 @@ mod working;
 
 pub use filling::{Filled, fill, fill_frames};
 pub use iw_endpoint::{CallRefusal, Endpoint, Intake, Octets, Step};
-pub use sharing::{is_above_mark, next_marked, next_within};
+pub use sharing::{is_above_mark, next_marked, next_within, passes_over};
 pub use taking::{break_link, close, take, take_some};
 pub use working::{Refusal, is_progress, next};
 

@@ -85,9 +85,10 @@ pub fn is_above_mark<A: Allocator>(
     }
 }
 
-// Whether the application need not act on a step: it is progress, and the stream was above the mark before it (`above`), or is
-// not above it now.
-fn passes_over<A: Allocator>(
+/// Whether [`next_marked`] passes over a step: it is progress ([`is_progress`](crate::is_progress)), and the stream was above the
+/// mark before it (`above`), or is not above it now.
+#[inline]
+pub fn passes_over<A: Allocator>(
     step: &Step<Octets<A>>,
     above: bool,
     endpoint: &Endpoint<A>,

@@ -24,6 +24,7 @@ pub enum Refusal {
 }
 
 /// Whether a step only tells how far the stream has come, so that the application need not act on it.
+#[inline(always)]
 pub fn is_progress<A: Allocator>(step: &Step<Octets<A>>) -> bool
     ensures { result ≡ is_progress step.now }
 {

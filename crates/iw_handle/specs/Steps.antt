@@ -2,11 +2,9 @@
 use Rattle.std.specs.Prelude.{◌≡◌, ℕ, zero, suc, ◌<◌, ◌≤◌, Bool, true, false, List, Option, None, Some, Result, Ok, Err}
 use Rattle.std.specs.Prelude.{ℤ, pos, IfSome, IfNone}
 use Rattle.iw_stream.specs.declared.answer.Step.{Step}
-use Rattle.iw_stream.specs.declared.answer.Step.TheVariants.{Done, Flushed, FlushedRecv, Asked, Opened, Closed, Placed}
-use Rattle.iw_stream.specs.declared.answer.Step.TheVariants.{Buffered, Requested, Tried, Passed, Received, Terminated}
-use Rattle.iw_stream.specs.declared.answer.Step.TheVariants.{Fault, Idle}
 use Rattle.iw_endpoint.specs.declared.refusal.NoSuchStream.{NoSuchStream}
 use Rattle.iw_endpoint.specs.Endpoint.{step_at}
+use Rattle.iw_connection.specs.Steps.{is_progress}
 use Rattle.iw_handle.specs.declared.event.Event.{Event}
 use Rattle.iw_handle.specs.declared.open_handle.Held.{Held}
 use Rattle.iw_handle.specs.declared.refusal.Refusal.{Refusal}
@@ -16,21 +14,7 @@ use Rattle.iw_handle.specs.Streams.{refusal_to_work, TriesAt, held_worked, event
 
 -- a quiet step: the program need not act on it
 abbrev pub is_quiet : Step (List ℕ) → Bool
-is_quiet (Placed right stag to len) = true
-is_quiet (Buffered msn mo len) = true
-is_quiet (Requested size stag to) = true
-is_quiet (Tried place) = true
-is_quiet Passed = true
-is_quiet (Done message) = false
-is_quiet (Flushed message) = false
-is_quiet (FlushedRecv buffer) = false
-is_quiet Asked = false
-is_quiet (Opened agreed) = false
-is_quiet (Closed fault) = false
-is_quiet (Received buffer len solicited invalidate) = false
-is_quiet (Terminated fault) = false
-is_quiet (Fault fault) = false
-is_quiet Idle = false
+is_quiet step = is_progress step
 
 abbrev pub is_quiet_answer : Result (Step (List ℕ)) NoSuchStream → Bool
 is_quiet_answer (Ok step) = is_quiet step

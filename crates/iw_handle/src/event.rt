@@ -7,7 +7,7 @@ ghost use Rattle.iw_handle.specs.Events.{emitted_of, filling_of, facts_of, rtr_f
 ghost use Rattle.iw_handle.specs.Steps.{is_quiet};
 
 use iw_codes::numbers;
-use iw_connection::Filled;
+use iw_connection::{Filled, is_progress};
 use iw_endpoint::{
     Agreed, Delivery, Emission, EnhancedData, Facts, Fault, Kind, Octets, PeerOptions, Right,
     Rights, Stag, Standing, StartupFault, Step,
@@ -430,23 +430,7 @@ pub fn event_of(oldest: u64, step: &Step<Octets>) -> Event
 pub fn is_quiet(step: &Step<Octets>) -> bool
     ensures { result ≡ is_quiet step.now }
 {
-    match step {
-        Step::Placed { .. }
-        | Step::Buffered { .. }
-        | Step::Requested { .. }
-        | Step::Tried(_)
-        | Step::Passed => true,
-        Step::Done(_)
-        | Step::Flushed(_)
-        | Step::FlushedRecv(_)
-        | Step::Asked
-        | Step::Opened(_)
-        | Step::Closed(_)
-        | Step::Received { .. }
-        | Step::Terminated(_)
-        | Step::Fault(_)
-        | Step::Idle => false,
-    }
+    is_progress(step)
 }
 
 /// What was emitted, in numbers.

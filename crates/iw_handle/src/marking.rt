@@ -1,13 +1,12 @@
 //! Work with a share of the domain's pool, and a high-water mark.
 ghost use Rattle.std.specs.Prelude.{◌≡◌, ◌<◌, not, ◌&&◌, None, IfSome, IfNone, OnErr, IsSomeAnd};
 ghost use Rattle.std.specs.Result.{result_err};
-ghost use Rattle.iw_connection.specs.Marking.{is_above_mark, passes_over};
+ghost use Rattle.iw_connection.specs.Marking.{is_above_mark};
 ghost use Rattle.iw_handle.specs.Limits.{is_plain, limits_refusal, counts, share_of, mark_of};
 ghost use Rattle.iw_handle.specs.Marking.{with_mark, WorksOnMarked};
 ghost use Rattle.iw_handle.specs.State.{called_on};
-ghost use Rattle.iw_handle.specs.Steps.{is_quiet};
 
-use crate::event::{Event, is_quiet};
+use crate::event::Event;
 use crate::handle::Handle;
 use crate::open_handle::Held;
 use crate::refusal::Refusal;
@@ -16,8 +15,8 @@ use crate::sharing::step;
 use crate::structs::{FLAGGED_LIMITS_SIZE, LIMITS_SIZE, Limits, check_size};
 use crate::working::{QUIET_STEPS, pass, point, tell};
 use iw_codes::numbers;
-use iw_connection::is_above_mark;
-use iw_endpoint::{Endpoint, Octets, Step};
+use iw_connection::{is_above_mark, passes_over};
+use iw_endpoint::Endpoint;
 use std::alloc::Global;
 
 // In place of a share or a mark that does not count.
@@ -84,19 +83,6 @@ fn tell_mark(above: bool, endpoint: &Endpoint, number: u32, mark: usize, event: 
     }
 }
 
-// Whether a step is passed over: it is quiet, and the stream was above the mark before it (`above`), or is not above it now.
-fn passes_by(
-    step: &Step<Octets>,
-    above: bool,
-    endpoint: &Endpoint,
-    number: u32,
-    mark: usize,
-) -> bool
-    ensures { result ≡ passes_over (is_quiet step.now) above (is_above_mark endpoint.now number mark) }
-{
-    is_quiet(step) && (above || !is_above_mark(endpoint, number, mark))
-}
-
 // Does steps one after another: at most `most` quiet ones that do not pass the mark, then the one that it reports.
 fn steps(
     held: &mut Held,
@@ -114,10 +100,11 @@ fn steps(
     'steps: loop {
         let above = is_above_mark(&held.endpoint, number, mark);
         match step(&mut held.endpoint, number, share, &mut reach) {
-            Ok(step) if before < most && passes_by(&step, above, &held.endpoint, number, mark) => {
-                pass(&step, number, &mut held.lines);
-                before += 1;
-            }
+            Ok(step) if before < most && passes_over(&step, above, &held.endpoint, number, mark) =>
+                {
+                    pass(&step, number, &mut held.lines);
+                    before += 1;
+                }
             Ok(step) => {
                 tell(step, number, &mut held.lines, event);
                 tell_mark(above, &held.endpoint, number, mark, event);

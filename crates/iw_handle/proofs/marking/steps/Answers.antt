@@ -8,7 +8,7 @@ use Rattle.iw_handle.proofs.Reached.{not_memory, refused_this, memory_none}
 use Rattle.iw_handle.proofs.QuietStepsMarked.{more_unmarked, kind_told, works-marked, kind_marked, refused-marked, works_on-marked}
 use Rattle.iw_handle.proofs.QuietStepsWithin.{more_quiet, one_more, works-told, works-refused}
 use Rattle.iw_handle.proofs.marking.steps.Goals as goal
-use Rattle.iw_handle.proofs.marking.steps.Goals.{then-before-most+else-passes_by, else-before-most}
+use Rattle.iw_handle.proofs.marking.steps.Goals.{then-before-most+else-passes_over, else-before-most}
 
 pub steps-init : goal.steps-init
 unfolding after_steps_within
@@ -37,9 +37,9 @@ pub steps-preserved : goal.steps-preserved
 steps-preserved c =
     let s = c.in-Ok.ensures in let loop = c.steps in
     let now = loop.held.endpoint in let new = c.step.new.endpoint in
-    let above = c.is_above_mark-above in let over = c.passes_by in
-    let quiet = progress_over now new c.args.number c.args.share c.args.mark (is_quiet c.in-Ok.step) above.result over.result s.ok above.ensures over.ensures c.if-passes_by.true in
-    let unmarked = unmarked_over now new c.args.number c.args.share c.args.mark (is_quiet c.in-Ok.step) above.result over.result s.ok above.ensures over.ensures c.if-passes_by.true in
+    let above = c.is_above_mark-above in let over = c.passes_over in
+    let quiet = progress_over now new c.args.number c.args.share c.args.mark (is_quiet c.in-Ok.step) above.result over.result s.ok above.ensures over.ensures c.if-passes_over.true in
+    let unmarked = unmarked_over now new c.args.number c.args.share c.args.mark (is_quiet c.in-Ok.step) above.result over.result s.ok above.ensures over.ensures c.if-passes_over.true in
     record {
       few = omega arith;
       quiet = more_quiet loop.held c.args.number c.args.share c.in-Ok.step s.refused s.step _ s.ok c.args.held.now loop.before loop.invariant.left quiet
@@ -65,8 +65,8 @@ returns-in-Ok-2-clause-steps c =
     (works-marked loop.held c.step.new.endpoint c.args.number c.args.share c.args.mark above.result c.tell.new.event c.tell_mark.new.event s.ok above.ensures c.tell_mark.ensures _
     (works-told loop.held c.args.number c.args.share c.in-Ok.step s.refused s.step _ s.ok _ _ c.tell.ensures.event c.tell.ensures.lines))
     (λ less none quiet. elim c.if-before-most.branch [
-      | then-before-most+else-passes_by w ↦
-          marked_told loop.held.endpoint c.step.new.endpoint c.args.number c.args.share c.args.mark (is_quiet c.in-Ok.step) above.result w.passes_by.result s.ok above.ensures w.passes_by.ensures w.if-passes_by.false (ap is_quiet_answer s.step ∙ quiet)
+      | then-before-most+else-passes_over w ↦
+          marked_told loop.held.endpoint c.step.new.endpoint c.args.number c.args.share c.args.mark (is_quiet c.in-Ok.step) above.result w.passes_over.result s.ok above.ensures w.passes_over.ensures w.if-passes_over.false (ap is_quiet_answer s.step ∙ quiet)
       | else-before-most w ↦ absurd (omega arith)
     ])
     (λ none marked. kind_marked loop.held c.step.new.endpoint c.args.number c.args.share c.args.mark above.result c.tell.new.event c.tell_mark.new.event s.ok above.ensures c.tell_mark.ensures
