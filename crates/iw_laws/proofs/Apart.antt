@@ -192,7 +192,7 @@ own_act e f s (Work step) h rule = subst (λ o. StreamRule f.table (lent_to o s)
     go (Some pool) = stream_rule (sees s pool) e.table f.table h.table (Work step)
 own_act e f s Break h rule = tt
 
-own_rule : (d : ℕ) (e : EndpointState) (act : Act Octets) → HasDomains e → Concerns d e (call_made act) → EndRule e act → EndRule (alone d (part_of d e)) act
+pub own_rule : (d : ℕ) (e : EndpointState) (act : Act Octets) → HasDomains e → Concerns d e (call_made act) → EndRule e act → EndRule (alone d (part_of d e)) act
 own_rule d e (Domain pd refused) all here rule =
     subst (λ x. EndRule (alone x (part_of x e)) (Domain pd refused)) here (rule ∙ ap (λ part. own_domain_refusal part pd) (seen_alone pd e all).table.part)
 own_rule d e (Register pd base rights octets answer) all here rule =

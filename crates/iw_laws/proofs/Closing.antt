@@ -57,12 +57,12 @@ region_retired (Some slots) stream stag = ap (λ s. under_key s stag.key) (slot_
         go false = refl
 
 -- in the domain, and in every other
-at_retired : (t : Table) (d : ℕ) (stream : Option ℕ) (stag : Stag) → stag.domain ≡ d → region_at (retired t (record { domain = d; stream = stream })) stag ≡ option_map (retired_region stream) (region_at t stag)
+pub at_retired : (t : Table) (d : ℕ) (stream : Option ℕ) (stag : Stag) → stag.domain ≡ d → region_at (retired t (record { domain = d; stream = stream })) stag ≡ option_map (retired_region stream) (region_at t stag)
 at_retired t d stream stag own =
     subst (λ x. own_region (part_of (retired t (record { domain = d; stream = stream })) x) stag ≡ option_map (retired_region stream) (own_region (part_of t x) stag)) (sym own)
     (ap (λ part. own_region part stag) (set_here (λ part. own_retired part stream) None refl t d) ∙ region_retired (part_of t d) stream stag)
 
-at_others : (t : Table) (d : ℕ) (stream : Option ℕ) (stag : Stag) → stag.domain ≢ d → region_at (retired t (record { domain = d; stream = stream })) stag ≡ region_at t stag
+pub at_others : (t : Table) (d : ℕ) (stream : Option ℕ) (stag : Stag) → stag.domain ≢ d → region_at (retired t (record { domain = d; stream = stream })) stag ≡ region_at t stag
 at_others t d stream stag apart = ap (λ part. own_region part stag) (get_or-set_other t d stag.domain (own_retired (part_of t d) stream) None apart)
 
 -- ---- a close

@@ -291,7 +291,7 @@ number_after s peer done (Stream m act) n k rule = go (eqb m n) refl
           unused = λ h. absurd (true≢false (sym (ap is_some here) ∙ h));
         }
 
-numbers_after : (s : EndState) (act : Act Octets) → length (streams_after s.endpoint act) ≡ length s.endpoint.streams
+pub numbers_after : (s : EndState) (act : Act Octets) → length (streams_after s.endpoint act) ≡ length s.endpoint.streams
 numbers_after s (Domain pd refused) = refl
 numbers_after s (Register pd base rights octets answer) = refl
 numbers_after s (Deregister stag answer) = refl

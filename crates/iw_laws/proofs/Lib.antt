@@ -56,7 +56,10 @@ pub mod Serving
 pub mod Gone
 pub mod Closing
 pub mod ServerTables
+pub mod Closes
+pub mod ServerCalls
 pub mod Apart
+pub mod ServerApart
 pub mod RefusedApart
 pub mod EarlyLaws
 pub mod Placements
@@ -65,6 +68,7 @@ pub mod AtRest
 pub mod OneOctet
 pub mod Touched
 pub mod Holding
+pub mod ServerHolding
 pub mod Busy
 pub mod Rested
 pub mod Shorts

@@ -9,7 +9,7 @@ use Rattle.iw_memory.specs.declared.rights.Right.TheVariants as rights
 use Rattle.iw_memory.specs.Table.{empty}
 use Rattle.iw_octets.specs.Segment.{segment_octets}
 use Rattle.iw_fpdu.specs.Frame.{frame_octets}
-use Rattle.iw_queues.specs.Joined.{one_if, count_writes}
+use Rattle.iw_queues.specs.Joined.{one_if, count_writes, count_before}
 use Rattle.iw_stream.specs.Starting.{plain}
 use Rattle.iw_events.specs.declared.call.End.{End}
 use Rattle.iw_events.specs.declared.call.End.TheVariants.{A, B}
@@ -22,9 +22,9 @@ use Rattle.iw_laws.specs.Turns.{Answer, Story, story, story_of, next_asked, fetc
 use Rattle.iw_laws.specs.Merged.{response_segment}
 use Rattle.iw_laws.specs.Sends.{ready_of}
 use Rattle.iw_laws.specs.Faithful.{laid, responses, responses_done}
-use Rattle.iw_laws.specs.Holds.{Place, cell_of, AgreeOn, IsUntouched, last_touch, laid_done}
-use Rattle.iw_laws.specs.WrongRuns.{stag, first_four, other_four, read_one, request_frame}
-use Rattle.iw_laws.specs.HeldRuns.{places_other, sinks_other, RefusesOtherWritten, RefusesOtherFetched, KnowsTouches}
+use Rattle.iw_laws.specs.Holds.{Place, cell_of, IsUntouched, last_touch, laid_done}
+use Rattle.iw_laws.specs.WrongRuns.{Run, stag, first_four, other_four, read_one, request_frame}
+use Rattle.iw_laws.specs.HeldRuns.{places_other, places_once, places_anew, sinks_other, RefusesOtherWritten, RefusesOtherWrittenAnew, RefusesOtherFetched, KnowsTouches}
 use Rattle.iw_laws.proofs.Ready.{ready_in}
 use Rattle.iw_laws.proofs.Tracks.{shown_stays}
 use Rattle.iw_laws.proofs.RefusedReads.{honest, opened_at_once, Takes, takes, request_came, answered_whole}
@@ -38,7 +38,7 @@ the_place : Place
 the_place = record { stag = stag; to = 0 }
 
 -- of octets that begin with one, that is the one that may stand there
-first_one : (x other : ℕ) → 0 < one_if (eqb x other) + 0 → other ≡ x
+pub first_one : (x other : ℕ) → 0 < one_if (eqb x other) + 0 → other ≡ x
 first_one x other some = elim (eqb_tells x other) [
   | inl same ↦ sym same.1
   | inr apart ↦ absurd (omega (arith, some, ap one_if apart.0))
@@ -49,7 +49,7 @@ first_one x other some = elim (eqb_tells x other) [
 pub refuses_other_written : RefusesOtherWritten
 unfolding acts stream_acts openings story posted received opened_at_once table_after empty last_touch numbers_ahead place_near before_start the_place
 refuses_other_written h =
-    let held = h places_other [] (sym (append-nil places_other)) A 0 (honest places_other opened calm) the_place 0xaa 0 (omega arith) (omega arith) agree untouched in
+    let held = h [] places_other [] (sym (append-nil places_other)) A 0 (inr refl) (honest places_other opened calm) the_place 0xaa 0 (omega arith, record { new = omega arith; alone = agree }) untouched in
     omega (arith, ap (λ (xs : Octets). get_or xs 0 0) held)
   where
     opened : (x : End) → openings 0 (acts x places_other) ≡ opened_at_once ∷ []
@@ -60,11 +60,41 @@ refuses_other_written h =
     calm A = refl
     calm B = refl
 
-    agree : AgreeOn the_place 0xaa (posted (stream_acts 0 (acts A places_other)))
+    agree : (other : ℕ) → 0 < count_writes (cell_of the_place other) (posted (stream_acts 0 (acts A places_other))) → other ≡ 0xaa
     agree other some = first_one 0xaa other (omega (arith, some))
 
     untouched : IsUntouched the_place 0 rights.Write (acts B places_other)
     untouched act is = (0, 0xbb ∷ [], sym (same_Some (Stream 0 (Work (seen.Placed rights.Write stag 0 (0xbb ∷ [])))) act is))
+
+pub refuses_other_written_anew : RefusesOtherWrittenAnew
+unfolding acts stream_acts openings story posted received opened_at_once table_after empty last_touch numbers_ahead place_near before_start the_place
+refuses_other_written_anew h =
+    let all : Run = places_once ++ places_anew in
+    let held = h places_once places_anew [] (sym (append-nil all)) A 0 (inl (honest places_once opened_once calm_once)) (honest all opened calm) the_place 0xcc 1 (omega arith, record { new = omega arith; alone = agree }) untouched in
+    omega (arith, ap (λ (xs : Octets). get_or xs 0 0) held)
+  where
+    opened_once : (x : End) → openings 0 (acts x places_once) ≡ opened_at_once ∷ []
+    opened_once A = refl
+    opened_once B = refl
+
+    calm_once : (x : End) → (story_of 0 (acts x places_once)).strays ≡ false
+    calm_once A = refl
+    calm_once B = refl
+
+    opened : (x : End) → openings 0 (acts x (places_once ++ places_anew)) ≡ opened_at_once ∷ []
+    opened A = refl
+    opened B = refl
+
+    calm : (x : End) → (story_of 0 (acts x (places_once ++ places_anew))).strays ≡ false
+    calm A = refl
+    calm B = refl
+
+    -- the Write of 0xaa lies before the Send that had been received
+    agree : (other : ℕ) → count_before (cell_of the_place other) 0 (posted (stream_acts 0 (acts A places_once))) < count_writes (cell_of the_place other) (posted (stream_acts 0 (acts A (places_once ++ places_anew)))) → other ≡ 0xcc
+    agree other some = first_one 0xcc other (omega (arith, some))
+
+    untouched : IsUntouched the_place 0 rights.Write (acts B (places_once ++ places_anew))
+    untouched act is = (0, 0xdd ∷ [], sym (same_Some (Stream 0 (Work (seen.Placed rights.Write stag 0 (0xdd ∷ [])))) act is))
 
 -- ---- a Read
 
@@ -82,7 +112,7 @@ answered_all t w none first =
 pub refuses_other_fetched : RefusesOtherFetched
 unfolding acts stream_acts openings story finished_kinds opened_at_once table_after empty last_touch numbers_ahead place_near before_start the_place
 refuses_other_fetched h =
-    let held = h sinks_other [] (sym (append-nil sinks_other)) B 0 (honest sinks_other opened calm) the_place 0x0a some agree untouched in
+    let held = h [] sinks_other [] (sym (append-nil sinks_other)) B 0 (inr refl) (honest sinks_other opened calm) the_place 0x0a (record { new = some; alone = agree }) untouched in
     omega (arith, ap (λ (xs : Octets). get_or xs 0 0) held)
   where
     read : Takes (story_of 0 (acts B (take 9 sinks_other))) read_one
@@ -107,7 +137,7 @@ refuses_other_fetched h =
           ap (λ z. count_writes (cell_of the_place 0x0a) (map laid (take 1 z))) (answered_whole (story_of 0 (acts B (take 9 sinks_other))) read refl refl),
         )
 
-    agree : AgreeOn the_place 0x0a (responses (story_of 0 (acts B sinks_other)))
+    agree : (other : ℕ) → 0 < count_writes (cell_of the_place other) (responses (story_of 0 (acts B sinks_other))) → other ≡ 0x0a
     agree other some =
         first_one 0x0a other (omega (arith, some, ap (count_writes (cell_of the_place other)) (answered_all (story_of 0 (acts B (take 9 sinks_other))) read refl refl)))
 

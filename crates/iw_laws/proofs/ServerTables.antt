@@ -2,17 +2,15 @@
 use Rattle.std.proofs.Common.{◌≡◌, ℕ, List, [], ◌∷◌, ◌++◌, length, Option, Some, None, Ok, Err, true, refl, sym, ap, ◌∙◌, subst, append_assoc}
 use Rattle.std.specs.Prelude.{is_some, unwrap_or}
 use Rattle.std.proofs.lemmas.List.{append-nil}
-use Rattle.iw_memory.specs.Region.{bound_region, new_region}
-use Rattle.iw_memory.specs.Table.{Table, empty, next_stag, retired, is_added, domain_refusal, register_refusal, store_refusal}
-use Rattle.std.specs.Prelude.{slice_index_or, IfOk}
-use Rattle.std.specs.Result.{result_err}
+use Rattle.iw_memory.specs.Region.{bound_region}
+use Rattle.iw_memory.specs.Table.{Table, empty, next_stag, retired}
 use Rattle.iw_stream.specs.Judging.{Standing}
 use Rattle.iw_stream.specs.Stream.{StreamState, peer_of}
 use Rattle.iw_startup.specs.declared.config.Config.{Config}
 use Rattle.iw_endpoint.specs.declared.refusal.CallRefusal.TheVariants.{Refused}
 use Rattle.iw_endpoint.specs.Endpoint as endpoint
-use Rattle.iw_endpoint.specs.Endpoint.{EndpointState, pool_of, share_fault, pool_fault, take_fault, taken, has_stream, stream_of, stream_at, unopened as no_stream, next_number, next_refusal, next_shared_refusal, limit_refusal, rest_refusal}
-use Rattle.iw_endpoint.specs.Isolation.{answer_or, unless}
+use Rattle.iw_endpoint.specs.Endpoint.{EndpointState, has_stream, stream_of, stream_at, unopened as no_stream, next_number, next_refusal, next_shared_refusal, limit_refusal, rest_refusal}
+use Rattle.iw_endpoint.specs.Isolation.{unless}
 use Rattle.iw_events.specs.declared.call.End.{End}
 use Rattle.iw_events.specs.declared.call.End.TheVariants.{A, B}
 use Rattle.iw_events.specs.declared.act.Act.{Act}
@@ -27,12 +25,11 @@ use Rattle.iw_laws.specs.Words as words
 use Rattle.iw_laws.specs.Words.{Octets, OnSome, deed, ended, other, stream_acts, config_for, domain_of, opening_of, registered_under}
 use Rattle.iw_events.specs.declared.act.Seen.{Seen}
 use Rattle.std.proofs.lemmas.Bool.{false≢true}
-use Rattle.iw_laws.specs.Calls.{IsNew, deregister_answer, invalidate_refusal}
-use Rattle.iw_laws.specs.Turns.{TurnsSeen, story_of, standing, pool_by}
+use Rattle.iw_laws.specs.Turns.{TurnsSeen, story_of, standing}
 use Rattle.iw_laws.specs.Rules.{EndState, State, end_of, with_end, start, EndRule, StreamRule}
 use Rattle.iw_laws.specs.Servers.{Connections, AreApart, told, ServerRule, ServerEndRule, PlainPeerRule, server_after, after_server_entry, server_state_after, ServerFollows}
 use Rattle.iw_laws.specs.ServerLaws.{by_number}
-use Rattle.iw_laws.specs.ServerRegions.{server_table_by, server_table_if, server_table_from, server_table, server_standing, server_stream_act, plain_act, RegionsAnswer, ServerShowsRegions, OfServerRegions, WithinAs, FetchAs, TurnsAs, EarlyAs, SecondAs, PlacedAs}
+use Rattle.iw_laws.specs.ServerRegions.{server_table_by, server_table_if, server_table_from, server_table, server_standing, server_stream_act, OfServerRegions, WithinAs, FetchAs, TurnsAs, EarlyAs, SecondAs, PlacedAs}
 use Rattle.iw_laws.proofs.States.{Connected, table_left, granted, denied, asked}
 use Rattle.iw_laws.proofs.Pools.{tale_seen as tale}
 use Rattle.iw_laws.proofs.Owned.{Own}
@@ -41,7 +38,7 @@ use Rattle.iw_laws.proofs.Runs.{Moment}
 use Rattle.iw_laws.proofs.Renumbered.{under, SameDenials}
 use Rattle.iw_laws.proofs.Serving.{Alike, asked_for, served, stream_step, server_state_after-push}
 use Rattle.iw_laws.proofs.Closing.{server_follows-split}
-use Rattle.iw_laws.proofs.Laws.{at_stream, standing_is, TurnsIn, turns_stream, fetch_shown, idle_stream, registers}
+use Rattle.iw_laws.proofs.Laws.{at_stream, standing_is, TurnsIn, turns_stream, fetch_shown, idle_stream}
 use Rattle.iw_laws.proofs.EarlyLaws.{early_seen, second_seen}
 use Rattle.iw_laws.proofs.Placements.{placed_seen}
 use Rattle.iw_laws.proofs.Owns.{within}
@@ -66,10 +63,10 @@ same_table (Some r) e new h = refl
 
 module _ (own number : ℕ → ℕ) (size : ℕ) (s g : EndState) (done : List (Act Octets)) (k : Alike own number size s g) (seen : EndSeen g done) where
   -- the stream there
-  there_is : (n : ℕ) → has_stream s.endpoint n ≡ true → stream_of g.endpoint (own n) ≡ Some (under (Some (number n)) (stream_at s.endpoint n))
+  pub there_is : (n : ℕ) → has_stream s.endpoint n ≡ true → stream_of g.endpoint (own n) ≡ Some (under (Some (number n)) (stream_at s.endpoint n))
   there_is n has = k.streams n (stream_at s.endpoint n) (stream_some (stream_of s.endpoint n) has)
 
-  domain_told : (n : ℕ) → has_stream s.endpoint n ≡ true → (stream_at s.endpoint n).domain ≡ domain_of (own n) done
+  pub domain_told : (n : ℕ) → has_stream s.endpoint n ≡ true → (stream_at s.endpoint n).domain ≡ domain_of (own n) done
   domain_told n has = sym (ap (λ o. (unwrap_or o no_stream).domain) (there_is n has)) ∙ seen.domain (own n) (ap is_some (there_is n has))
 
   act_table : (act : ServerAct Octets) → ServerEndRule s act → (server_after s act).endpoint.table ≡ server_table_by own done s.endpoint.table act
@@ -136,7 +133,7 @@ module _ (name : Connections) (apart : AreApart name) where
       ap (λ z. (end_of x (state_at z)).endpoint.table) (sym (append_assoc past (e ∷ []) es))
       ∙ tables_from es (past ++ e ∷ []) (subst (ServerFollows name start) (sym (append_assoc past (e ∷ []) es)) follows) t' next x
 
-  table_is : (past : List (ServerEntry Octets)) → ServerFollows name start past → (x : End) → (end_of x (state_at past)).endpoint.table ≡ server_table name x past
+  pub table_is : (past : List (ServerEntry Octets)) → ServerFollows name start past → (x : End) → (end_of x (state_at past)).endpoint.table ≡ server_table name x past
   table_is past follows x = tables_from past [] follows (λ y. empty) first x
     where
       first : (y : End) → (end_of y start).endpoint.table ≡ empty
@@ -251,40 +248,3 @@ placed_as done n table c act rule own = go (deed act).step (turns_as done n tabl
     go : (o : Option (Seen Octets)) → OnSome (TurnsSeen (ended (stream_acts n done)) (story_of n done) s) o → OnSome (PlacedSeen (story_of n done) s) o
     go None t = tt
     go (Some step) t = placed_seen (ended (stream_acts n done)) (story_of n done) s step t
-
--- ---- calls on regions and pools
-
-answer_so : (s : EndState) (done : List (Act Octets)) (table : Table) (act : Act Octets) → s.endpoint.table ≡ table → ((d : ℕ) → pool_of s.endpoint d ≡ pool_by d done) → EndRule s.endpoint act → RegionsAnswer table done act
-answer_so s done table (acts.Domain pd refused) regions pools rule = subst (λ t. refused ≡ domain_refusal t pd) regions rule
-answer_so s done table (acts.Register pd base rights octets answer) regions pools rule =
-    subst (λ t. (result_err answer ≡ register_refusal t pd base (length octets)) × IfOk answer (IsNew t pd)) regions (registers s.endpoint.table pd base (length octets) (new_region base octets rights) answer rule)
-answer_so s done table (acts.Deregister stag answer) regions pools rule = subst (λ t. answer ≡ deregister_answer t stag) regions rule
-answer_so s done table (acts.Invalidate stag refused) regions pools rule = subst (λ t. refused ≡ invalidate_refusal t stag) regions rule
-answer_so s done table (acts.Store stag to octets refused) regions pools rule = subst (λ t. refused ≡ store_refusal t stag to (length octets)) regions rule
-answer_so s done table (acts.Share pd refused) regions pools rule = rule ∙ (λ i. share_fault (is_added (regions i) pd) (pools pd i))
-answer_so s done table (acts.Pool pd len refused) regions pools rule = rule ∙ (λ i. pool_fault (is_added (regions i) pd) (pools pd i))
-answer_so s done table (acts.Unpool pd answer) regions pools rule = rule ∙ (λ i. answer_or (take_fault (is_added (regions i) pd) (pools pd i)) (taken (pools pd i)))
-answer_so s done table (acts.Open n pd role options private refused) regions pools rule = tt
-answer_so s done table (acts.OpenShared n pd role options private refused) regions pools rule = tt
-answer_so s done table (acts.Stream n act) regions pools rule = tt
-
-pub shows_server_regions : ServerShowsRegions
-shows_server_regions name trace apart follows past e future is =
-    let split = server_follows-split name past (e ∷ future) start (subst (ServerFollows name start) is follows) in
-    by e.end e.act split.0 split.1.0
-  where
-    w : State
-    w = server_state_after start past
-
-    by : (x : End) (act : ServerAct Octets) → ServerFollows name start past → ServerRule (name x) (name (other x)) (end_of x w) (end_of (other x) w) act → OnSome (RegionsAnswer (server_table name x past) (words.acts x (told name past))) (plain_act act)
-    by x (Plain act) before rule =
-        let walked = served name past apart before in
-        answer_so (end_of x w) (words.acts x (told name past)) (server_table name x past) act (table_is name apart past before x)
-        (λ d. sym (ap (λ xs. slice_index_or xs d None) (walked.alike x).pools) ∙ walked.keeps.pools x d) rule.0
-    by x (Stream n act) before rule = tt
-    by x (Read n from sequence octets delivery) before rule = tt
-    by x (ReadRaw n sequence octets delivery) before rule = tt
-    by x (OpenNext pd role options private answer) before rule = tt
-    by x (OpenSharedNext pd role options private answer) before rule = tt
-    by x (RegisterFor n base rights octets answer) before rule = tt
-    by x (Close n refused) before rule = tt

@@ -1,11 +1,12 @@
 -- What touched a place last, and what stands there since.
 use Rattle.std.proofs.Common.{◌≡◌, ◌≢◌, ◌⊎◌, inl, inr, ℕ, zero, suc, ◌+◌, ◌-◌, ◌^◌, ◌<◌, ◌≤◌, List, [], ◌∷◌, ◌++◌, length, Option, Some, None, Ok, Err, Bool, true, false, cond, refl, sym, ap, ◌∙◌, subst, arith, append_assoc, eqb, ◌&&◌}
-use Rattle.std.specs.Prelude.{nat_eq, nat_le, nat_lt, is_some, IsSomeAnd, slice_index_or, slice_set}
+use Rattle.std.specs.Prelude.{nat_eq, nat_le, nat_lt, is_some, IsSomeAnd, slice_index_or, slice_set, fold}
 use Rattle.std.specs.Option.{option_map, option_map_or}
 use Rattle.std.proofs.lemmas.Bool.{true≢false}
 use Rattle.std.proofs.lemmas.Bool.Decides.{nat_tests, eqb_tells}
 use Rattle.std.proofs.lemmas.List.{append-nil, get_or-set_other}
 use Rattle.std.proofs.lemmas.List.Concat.{flat_map-append}
+use Rattle.std.proofs.lemmas.List.Sums.{fold-append}
 use Rattle.std.proofs.lemmas.Option.{none-some, same_Some}
 use Rattle.iw_octets.specs.declared.stag.Stag.{Stag}
 use Rattle.iw_octets.specs.Stag.{number_of}
@@ -34,7 +35,7 @@ use Rattle.iw_events.specs.declared.act.Entry.{Entry}
 use Rattle.iw_laws.specs.Words.{Octets, Placing, Sent, acts, acts_if, deed, of_stream, stream_acts, stream_acts_by, placings, placed_by, listed, as_write, written, written_by, sunk, sunk_by, table_after, table_by, peer_at, OnSome, OnStream}
 use Rattle.iw_laws.specs.Safe.{Within, WithinStream}
 use Rattle.iw_laws.specs.Plain.{PlainAnswered, ShowsRegions}
-use Rattle.iw_laws.specs.Holds.{Place, cell_of, Holds, lies_over, touches, touched_after, last_touch, IsUntouched, AgreeOn}
+use Rattle.iw_laws.specs.Holds.{Place, cell_of, Holds, IsPlacedSince, lies_over, touches, touched_after, last_touch, IsUntouched}
 use Rattle.iw_laws.proofs.Tales.{fold-push, table-push, stream_acts-push, acts-push}
 use Rattle.iw_laws.proofs.Joins.{written-push, sunk-push}
 use Rattle.iw_laws.proofs.Ends.{there}
@@ -43,11 +44,11 @@ use Rattle.iw_laws.proofs.OneOctet.{one_at, same_stag, Stands, standing, FitsReg
 -- ---- acts that may be done
 
 -- octets lie within a region that is there, or there are none
-abbrev IsPlaceable : Table → Placing → Type 0
+abbrev pub IsPlaceable : Table → Placing → Type 0
 IsPlaceable table q = (length q.octets ≡ 0) ⊎ ((r : Region) × (region_at table q.stag ≡ Some r) × Spans r q.to (length q.octets) × (q.to + length q.octets ≤ 2 ^ 64))
 
 -- what an act puts in a region lies within it
-abbrev FitsAct : Table → Act Octets → Type 0
+abbrev pub FitsAct : Table → Act Octets → Type 0
 FitsAct table (Stream n act) = OnSome (IsPlaceable table) (deed act).placing
 FitsAct table (Store stag to octets None) = FitsRegion table stag to octets
 FitsAct table (Store stag to octets (Some refusal)) = Unit {0}
@@ -61,7 +62,7 @@ FitsAct table (Pool pd len refused) = Unit {0}
 FitsAct table (Unpool pd answer) = Unit {0}
 FitsAct table (OpenShared number pd role options private refused) = Unit {0}
 
-placeable : (table : Table) (peer : Peer) (q : Placing) → AllowsFor table peer q.stag q.to (length q.octets) q.right → IsPlaceable table q
+pub placeable : (table : Table) (peer : Peer) (q : Placing) → AllowsFor table peer q.stag q.to (length q.octets) q.right → IsPlaceable table q
 placeable table peer q (inl none) = inl none
 placeable table peer q (inr allowed) = go (region_at table q.stag) refl allowed.1
   where
@@ -69,7 +70,7 @@ placeable table peer q (inr allowed) = go (region_at table q.stag) refl allowed.
     go None e h = absurd h
     go (Some r) e h = inr (r, e, record { from_base = h.from_base; to_end = h.to_end }, h.no_wrap)
 
-storable : (table : Table) (stag : Stag) (to : ℕ) (octets : Octets) → None ≡ store_refusal table stag to (length octets) → FitsRegion table stag to octets
+pub storable : (table : Table) (stag : Stag) (to : ℕ) (octets : Octets) → None ≡ store_refusal table stag to (length octets) → FitsRegion table stag to octets
 storable table stag to octets none r is =
     go (nat_le r.base to) refl (nat_le (to + length octets) (r.base + length r.octets)) refl
     (none ∙ ap (λ (o : Option Region). option_map_or (λ r. cond (nat_le r.base to && nat_le (to + length octets) (r.base + length r.octets)) None (Some Outside)) o (Some NoRegion)) is)
@@ -105,7 +106,7 @@ roomy slots i = go (nat_lt (free_slot slots) (length slots))
     go true = refl
     go false = get_or-push_default slots unused i
 
-other_slot : (table : Table) (p : Place) (o : Octets) (stag : Stag) (new : SlotState) → (nat_eq stag.domain p.stag.domain && nat_eq stag.slot p.stag.slot) ≡ false → Stands table p o
+pub other_slot : (table : Table) (p : Place) (o : Octets) (stag : Stag) (new : SlotState) → (nat_eq stag.domain p.stag.domain && nat_eq stag.slot p.stag.slot) ≡ false → Stands table p o
     → Stands (with_part table stag.domain (Some (slice_set (with_room (slots_of table stag.domain)) stag.slot new))) p o
 other_slot table p o stag new off s = elim (eqb_tells stag.domain p.stag.domain) [
   | inr apart ↦ other_part table p o stag.domain (Some (slice_set (with_room (slots_of table stag.domain)) stag.slot new)) apart.0 s
@@ -137,7 +138,7 @@ invalid_stays table p o stag s = elim (same_stag p.stag stag) [
 other_number : (a b : Stag) → nat_eq (number_of b) (number_of a) ≡ false → a ≢ b
 other_number a b off e = (let same : number_of a ≡ number_of b = ap number_of e in let never : ⊥ = grind (arith, nat_tests) in never)
 
-stays : (table : Table) (p : Place) (o : Octets) (act : Act Octets) → FitsAct table act → touches p act ≡ false → Stands table p o → Stands (table_by table act) p o
+pub stays : (table : Table) (p : Place) (o : Octets) (act : Act Octets) → FitsAct table act → touches p act ≡ false → Stands table p o → Stands (table_by table act) p o
 stays table p o (Domain pd None) fits h s = other_part table p o pd (Some []) h s
 stays table p o (Domain pd (Some refusal)) fits h s = s
 stays table p o (Register pd base rights octets (Ok stag)) fits h s = other_slot table p o stag (record { key = stag.key; region = Some (new_region base octets rights) }) h s
@@ -178,7 +179,7 @@ of_right rights.Write ps = written ps
 of_right rights.Sink ps = sunk ps
 of_right rights.Read ps = []
 
-abbrev count_by : Right → Cell → Placing → ℕ
+abbrev pub count_by : Right → Cell → Placing → ℕ
 count_by rights.Write c q = count_writes c (written_by q.right (as_write q))
 count_by rights.Sink c q = count_writes c (sunk_by q.right (as_write q))
 count_by rights.Read c q = 0
@@ -189,7 +190,7 @@ one_more rights.Sink c ps q = sunk-push c ps q
 one_more rights.Read c ps q = omega arith
 
 -- by an act of the stream
-abbrev count_act : ℕ → Right → Cell → Act Octets → ℕ
+abbrev pub count_act : ℕ → Right → Cell → Act Octets → ℕ
 count_act n right c act = option_map_or (λ x. cond (nat_eq x.0 n) (option_map_or (count_by right c) (deed x.1).placing 0) 0) (of_stream act) 0
 
 placings-append : (xs ys : List (StreamAct Octets)) → placings (xs ++ ys) ≡ placings xs ++ placings ys
@@ -204,7 +205,7 @@ placings-none : placings [] ≡ []
 unfolding placings
 placings-none = refl
 
-counts-push : (n : ℕ) (right : Right) (c : Cell) (done : List (Act Octets)) (act : Act Octets)
+pub counts-push : (n : ℕ) (right : Right) (c : Cell) (done : List (Act Octets)) (act : Act Octets)
     → count_writes c (of_right right (placings (stream_acts n (done ++ act ∷ [])))) ≡ count_writes c (of_right right (placings (stream_acts n done))) + count_act n right c act
 counts-push n right c done act =
     ap (λ z. count_writes c (of_right right (placings z))) (stream_acts-push n done act) ∙ ap (λ z. count_writes c (of_right right z)) (placings-append (stream_acts n done) (stream_acts_by n act)) ∙ go (of_stream act)
@@ -258,7 +259,7 @@ none_by table p octet rights.Sink q fits h = go q.right
     go rights.Read = refl
     go rights.Write = refl
 
-none_act : (table : Table) (p : Place) (octet n : ℕ) (right : Right) (act : Act Octets) → FitsAct table act → touches p act ≡ false → count_act n right (cell_of p octet) act ≡ 0
+pub none_act : (table : Table) (p : Place) (octet n : ℕ) (right : Right) (act : Act Octets) → FitsAct table act → touches p act ≡ false → count_act n right (cell_of p octet) act ≡ 0
 none_act table p octet n right (Domain pd refused) fits h = refl
 none_act table p octet n right (Register pd base rights octets answer) fits h = refl
 none_act table p octet n right (Deregister stag answer) fits h = refl
@@ -282,47 +283,88 @@ none_act table p octet n right (Stream m act) fits h = by (nat_eq m n) (go (deed
 -- ---- what was seen of the place
 
 -- octets that were put over the place stand there
-record IsPut (table : Table) (p : Place) (to : ℕ) (octets : Octets) : Type 0 where
+pub record IsPut (table : Table) (p : Place) (to : ℕ) (octets : Octets) : Type 0 where
   pub low : to ≤ p.to
   pub high : p.to < to + length octets
   pub stand : Stands table p (one_at (p.to - to) octets)
 
--- what touched it last, if a placement of the stream is counted there; and what stands there, if that was a placement
-record IsSeenAt (p : Place) (n : ℕ) (right : Right) (done : List (Act Octets)) : Type 0 where
-  pub touched : (octet : ℕ) → 0 < count_writes (cell_of p octet) (of_right right (placings (stream_acts n done))) → (act : Act Octets) × (last_touch p done ≡ Some act)
-  pub put_is : (m : ℕ) (by : Right) (to : ℕ) (octets : Octets) → last_touch p done ≡ Some (Stream m (Work (seen.Placed by p.stag to octets))) → IsPut (table_after done) p to octets
-  pub counted : (to : ℕ) (octets : Octets) (octet : ℕ) → last_touch p done ≡ Some (Stream n (Work (seen.Placed right p.stag to octets))) → one_at (p.to - to) octets ≡ octet ∷ []
-      → 0 < count_writes (cell_of p octet) (of_right right (placings (stream_acts n done)))
+-- what touched it last, if an octet was counted there since a moment; and what stands there, if that was one of these placements (`IsOurs`): its
+-- octet is counted
+pub record IsSeenSince (X : Type 0) (IsOurs : X → ℕ → Octets → Type 0) (p : Place) (table : Table) (last : Option X) (base now : ℕ → ℕ) : Type 0 where
+  pub touched : (octet : ℕ) → base octet < now octet → (act : X) × (last ≡ Some act)
+  pub stands : (act : X) → last ≡ Some act → (to : ℕ) (octets : Octets) → IsOurs act to octets → IsPut table p to octets × ((octet : ℕ) → one_at (p.to - to) octets ≡ octet ∷ [] → base octet < now octet)
+  pub grown : (octet : ℕ) → base octet ≤ now octet
 
-touch-push : (p : Place) (done : List (Act Octets)) (act : Act Octets) → last_touch p (done ++ act ∷ []) ≡ touched_after p (last_touch p done) act
-unfolding last_touch
-touch-push p done act = fold-push (touched_after p) None done act
+-- what one act does there
+pub record IsStep (X : Type 0) (IsOurs : X → ℕ → Octets → Type 0) (p : Place) (table table' : Table) (touches_it : Bool) (act : X) (now now' : ℕ → ℕ) : Type 0 where
+  pub left : touches_it ≡ false → ((o : Octets) → Stands table p o → Stands table' p o) × ((octet : ℕ) → now' octet ≡ now octet)
+  pub put : touches_it ≡ true → (to : ℕ) (octets : Octets) → IsOurs act to octets → IsPut table' p to octets × ((octet : ℕ) → one_at (p.to - to) octets ≡ octet ∷ [] → now octet < now' octet)
+  pub more : (octet : ℕ) → now octet ≤ now' octet
 
--- an act that does not touch it
-untouched : (p : Place) (n : ℕ) (right : Right) (done : List (Act Octets)) (act : Act Octets) → FitsAct (table_after done) act → touches p act ≡ false → IsSeenAt p n right done → IsSeenAt p n right (done ++ act ∷ [])
-untouched p n right done act fits h k =
-    let last : last_touch p (done ++ act ∷ []) ≡ last_touch p done = touch-push p done act ∙ ap (λ b. cond b (Some act) (last_touch p done)) h in
-    record {
-      touched = λ octet some.
-          let r = k.touched octet (omega (arith, some, counts-push n right (cell_of p octet) done act, none_act (table_after done) p octet n right act fits h)) in
-          (r.0, last ∙ r.1);
-      put_is = λ m by to octets is.
-          let r = k.put_is m by to octets (sym last ∙ is) in
-          record { low = r.low; high = r.high; stand = subst (λ t. Stands t p (one_at (p.to - to) octets)) (sym (table-push done act)) (stays (table_after done) p (one_at (p.to - to) octets) act fits h r.stand) };
-      counted = λ to octets octet is one.
-          let r = k.counted to octets octet (sym last ∙ is) one in
-          omega (arith, r, counts-push n right (cell_of p octet) done act);
-    }
+module _ (X : Type 0) (IsOurs : X → ℕ → Octets → Type 0) (p : Place) (base : ℕ → ℕ) where
+  pub seen_first : (table : Table) → IsSeenSince X IsOurs p table None base base
+  seen_first table = record {
+    touched = λ octet some. absurd (omega (arith, some));
+    stands = λ act is to octets ours. absurd (none-some _ is);
+    grown = λ octet. omega arith;
+  }
+
+  pub seen_step : (table table' : Table) (last : Option X) (touches_it : Bool) (act : X) (now now' : ℕ → ℕ) → IsStep X IsOurs p table table' touches_it act now now' → IsSeenSince X IsOurs p table last base now
+      → IsSeenSince X IsOurs p table' (cond touches_it (Some act) last) base now'
+  seen_step table table' last false act now now' step k =
+      let left = step.left refl in
+      record {
+        touched = λ octet some. k.touched octet (omega (arith, some, left.1 octet));
+        stands = λ act' is to octets ours.
+            let r = k.stands act' is to octets ours in
+            (record { low = r.0.low; high = r.0.high; stand = left.0 (one_at (p.to - to) octets) r.0.stand }, λ octet one. (let less = r.1 octet one in omega (arith, less, left.1 octet)));
+        grown = λ octet. (let less = k.grown octet in omega (arith, less, left.1 octet));
+      }
+  seen_step table table' last true act now now' step k = record {
+    touched = λ octet some. (act, refl);
+    stands = λ act' is to octets ours.
+        let r = step.put refl to octets (subst (λ z. IsOurs z to octets) (sym (same_Some act act' is)) ours) in
+        (r.0, λ octet one. (let less = r.1 octet one in let grown = k.grown octet in omega (arith, less, grown)));
+    grown = λ octet. (let less = k.grown octet in let more = step.more octet in omega (arith, less, more));
+  }
+
+  -- an octet that was placed since stands there, where no other was
+  pub stands_there : (table : Table) (last : Option X) (now : ℕ → ℕ) → IsSeenSince X IsOurs p table last base now → (octet : ℕ) → base octet < now octet
+      → ((other : ℕ) → base other < now other → other ≡ octet) → ((act : X) → last ≡ Some act → (to : ℕ) × (octets : Octets) × IsOurs act to octets) → Holds table p octet
+  stands_there table last now k octet some agree untouched =
+      let t = k.touched octet some in
+      let w = untouched t.0 t.1 in
+      let r = k.stands t.0 t.1 w.0 w.1 w.2 in
+      let o = some_octet p w.0 w.1 r.0.low r.0.high in
+      let same : o.0 ≡ octet = agree o.0 (r.1 o.0 o.1) in
+      standing r.0.stand ∙ o.1 ∙ ap (λ z. z ∷ []) same
+
+-- how often an octet was placed there for a stream
+abbrev pub placed_at : Place → ℕ → Right → List (Act Octets) → ℕ → ℕ
+placed_at p n right done octet = count_writes (cell_of p octet) (of_right right (placings (stream_acts n done)))
+
+-- it was placed there since, and no other
+pub record IsOnlyOne (base now : ℕ → ℕ) (octet : ℕ) : Type 0 where
+  pub some : base octet < now octet
+  pub alone : (other : ℕ) → base other < now other → other ≡ octet
+
+-- where each cell was placed so often at least and at most
+pub only_one : (p : Place) (octet : ℕ) (base now : ℕ → ℕ) (least_then most_then least most : Cell → ℕ) → ((v : ℕ) → (least_then (cell_of p v) ≤ base v) × (base v ≤ most_then (cell_of p v))) → ((v : ℕ) → (least (cell_of p v) ≤ now v) × (now v ≤ most (cell_of p v)))
+    → IsPlacedSince p octet least_then most_then least most → IsOnlyOne base now octet
+only_one p octet base now least_then most_then least most before later w = record {
+  some = let a = (before octet).1 in let b = (later octet).0 in let c = w.new in omega (arith, a, b, c);
+  alone = λ v more. w.alone v (let a = (before v).0 in let b = (later v).1 in omega (arith, more, a, b));
+}
 
 -- the placement of a stream
-placed_there : (table : Table) (p : Place) (m : ℕ) (by : Right) (to : ℕ) (octets : Octets) → FitsAct table (Stream m (Work (seen.Placed by p.stag to octets))) → touches p (Stream m (Work (seen.Placed by p.stag to octets))) ≡ true
+pub placed_there : (table : Table) (p : Place) (m : ℕ) (by : Right) (to : ℕ) (octets : Octets) → FitsAct table (Stream m (Work (seen.Placed by p.stag to octets))) → touches p (Stream m (Work (seen.Placed by p.stag to octets))) ≡ true
     → IsPut (table_by table (Stream m (Work (seen.Placed by p.stag to octets)))) p to octets
 placed_there table p m by to octets (inl none) h = let w = over_parts p p.stag to octets h in absurd (omega (arith, w.0, w.1, none))
 placed_there table p m by to octets (inr found) h =
     let w = over_parts p p.stag to octets h in
     record { low = w.0; high = w.1; stand = put_there table p to octets found.0 found.1 found.2 w.0 w.1 }
 
-placed_counted : (table : Table) (p : Place) (n : ℕ) (right : Right) (to : ℕ) (octets : Octets) (octet : ℕ) → (right ≡ rights.Read → ⊥) → FitsAct table (Stream n (Work (seen.Placed right p.stag to octets))) → touches p (Stream n (Work (seen.Placed right p.stag to octets))) ≡ true
+pub placed_counted : (table : Table) (p : Place) (n : ℕ) (right : Right) (to : ℕ) (octets : Octets) (octet : ℕ) → (right ≡ rights.Read → ⊥) → FitsAct table (Stream n (Work (seen.Placed right p.stag to octets))) → touches p (Stream n (Work (seen.Placed right p.stag to octets))) ≡ true
     → one_at (p.to - to) octets ≡ octet ∷ [] → 0 < count_act n right (cell_of p octet) (Stream n (Work (seen.Placed right p.stag to octets)))
 placed_counted table p n right to octets octet unread (inl none) h one = let w = over_parts p p.stag to octets h in absurd (omega (arith, w.0, w.1, none))
 placed_counted table p n right to octets octet unread (inr found) h one =
@@ -337,41 +379,42 @@ placed_counted table p n right to octets octet unread (inr found) h one =
     go rights.Sink unread some = omega (arith, some)
     go rights.Read unread some = absurd (unread refl)
 
--- an act that touches it
-touching : (p : Place) (n : ℕ) (right : Right) (done : List (Act Octets)) (act : Act Octets) → (right ≡ rights.Read → ⊥) → FitsAct (table_after done) act → touches p act ≡ true → IsSeenAt p n right (done ++ act ∷ [])
-touching p n right done act unread fits h =
-    let last : last_touch p (done ++ act ∷ []) ≡ Some act = touch-push p done act ∙ ap (λ b. cond b (Some act) (last_touch p done)) h in
-    record {
-      touched = λ octet some. (act, last);
-      put_is = λ m by to octets is.
-          let same : act ≡ Stream m (Work (seen.Placed by p.stag to octets)) = same_Some _ _ (sym last ∙ is) in
-          subst (λ t. IsPut t p to octets) (sym (table-push done act ∙ ap (table_by (table_after done)) same))
-          (placed_there (table_after done) p m by to octets (subst (FitsAct (table_after done)) same fits) (ap (touches p) (sym same) ∙ h));
-      counted = λ to octets octet is one.
-          let same : act ≡ Stream n (Work (seen.Placed right p.stag to octets)) = same_Some _ _ (sym last ∙ is) in
-          let some = placed_counted (table_after done) p n right to octets octet unread (subst (FitsAct (table_after done)) same fits) (ap (touches p) (sym same) ∙ h) one in
-          omega (arith, some, counts-push n right (cell_of p octet) done act, ap (count_act n right (cell_of p octet)) same);
-    }
+-- ---- in words of schedules
 
-next : (p : Place) (n : ℕ) (right : Right) (done : List (Act Octets)) (act : Act Octets) → (right ≡ rights.Read → ⊥) → FitsAct (table_after done) act → IsSeenAt p n right done → IsSeenAt p n right (done ++ act ∷ [])
-next p n right done act unread fits k = go (touches p act) refl
+abbrev IsPlacing : ℕ → Right → Stag → Act Octets → ℕ → Octets → Type 0
+IsPlacing n right stag act to octets = act ≡ Stream n (Work (seen.Placed right stag to octets))
+
+touch-push : (p : Place) (done : List (Act Octets)) (act : Act Octets) → last_touch p (done ++ act ∷ []) ≡ touched_after p (last_touch p done) act
+unfolding last_touch
+touch-push p done act = fold-push (touched_after p) None done act
+
+-- what touched it last of what was done since did so of all
+touched_later : (p : Place) (ys : List (Act Octets)) (l : Option (Act Octets)) (act : Act Octets) → fold (touched_after p) None ys ≡ Some act → fold (touched_after p) l ys ≡ Some act
+touched_later p [] l act h = absurd (none-some _ h)
+touched_later p (y ∷ ys) l act h = go (touches p y) refl h (touched_later p ys l act)
   where
-    go : (b : Bool) → touches p act ≡ b → IsSeenAt p n right (done ++ act ∷ [])
-    go true h = touching p n right done act unread fits h
-    go false h = untouched p n right done act fits h k
+    go : (b : Bool) → touches p y ≡ b → fold (touched_after p) (cond b (Some y) None) ys ≡ Some act → (fold (touched_after p) None ys ≡ Some act → fold (touched_after p) l ys ≡ Some act) → fold (touched_after p) (touched_after p l y) ys ≡ Some act
+    go true e h' later = ap (λ b. fold (touched_after p) (cond b (Some y) l) ys) e ∙ h'
+    go false e h' later = ap (λ b. fold (touched_after p) (cond b (Some y) l) ys) e ∙ later h'
 
-first : (p : Place) (n : ℕ) (right : Right) → IsSeenAt p n right []
-unfolding last_touch stream_acts placings
-first p n right = record {
-  touched = λ octet some. absurd (nothing (cell_of p octet) right some);
-  put_is = λ m by to octets is. absurd (none-some _ is);
-  counted = λ to octets octet is one. absurd (none-some _ is);
+last_later : (p : Place) (old more : List (Act Octets)) (act : Act Octets) → last_touch p more ≡ Some act → last_touch p (old ++ more) ≡ Some act
+unfolding last_touch
+last_later p old more act h = fold-append (touched_after p) None old more ∙ touched_later p more (fold (touched_after p) None old) act h
+
+-- an act, at a table that it fits
+one_step : (p : Place) (n : ℕ) (right : Right) (done : List (Act Octets)) (act : Act Octets) → (right ≡ rights.Read → ⊥) → FitsAct (table_after done) act
+    → IsStep (Act Octets) (IsPlacing n right p.stag) p (table_after done) (table_after (done ++ act ∷ [])) (touches p act) act (placed_at p n right done) (placed_at p n right (done ++ act ∷ []))
+one_step p n right done act unread fits = record {
+  left = λ h.
+      (λ o s. subst (λ t. Stands t p o) (sym (table-push done act)) (stays (table_after done) p o act fits h s), λ octet. omega (arith, counts-push n right (cell_of p octet) done act, none_act (table_after done) p octet n right act fits h));
+  put = λ h to octets same.
+      let fits' : FitsAct (table_after done) (Stream n (Work (seen.Placed right p.stag to octets))) = subst (FitsAct (table_after done)) same fits in
+      let h' : touches p (Stream n (Work (seen.Placed right p.stag to octets))) ≡ true = ap (touches p) (sym same) ∙ h in (
+        subst (λ t. IsPut t p to octets) (sym (table-push done act ∙ ap (table_by (table_after done)) same)) (placed_there (table_after done) p n right to octets fits' h'),
+        λ octet one. (let some = placed_counted (table_after done) p n right to octets octet unread fits' h' one in omega (arith, some, counts-push n right (cell_of p octet) done act, ap (count_act n right (cell_of p octet)) same)),
+      );
+  more = λ octet. omega (arith, counts-push n right (cell_of p octet) done act);
 }
-  where
-    nothing : (c : Cell) (right : Right) → 0 < count_writes c (of_right right []) → ⊥
-    nothing c rights.Write h = omega (arith, h)
-    nothing c rights.Sink h = omega (arith, h)
-    nothing c rights.Read h = omega (arith, h)
 
 -- ---- so at every moment of a trace
 
@@ -393,35 +436,46 @@ fits_act before (Pool pd len refused) within answered = tt
 fits_act before (Unpool pd answer) within answered = tt
 fits_act before (OpenShared number pd role options private refused) within answered = tt
 
-module _ (trace : List (Entry Octets)) (within : Within trace) (answered : ShowsRegions trace) (y : End) (p : Place) (n : ℕ) (right : Right) (unread : right ≡ rights.Read → ⊥) where
-  one : (pre : List (Entry Octets)) (e : Entry Octets) (post : List (Entry Octets)) → trace ≡ pre ++ e ∷ post → IsSeenAt p n right (acts y pre) → IsSeenAt p n right (acts y (pre ++ e ∷ []))
-  one pre e post is k = subst (IsSeenAt p n right) (sym (acts-push y pre e)) (by y e.end k (fits_act (acts e.end pre) e.act (within pre e post is) (answered pre e post is)))
+module _ (trace : List (Entry Octets)) (within : Within trace) (answered : ShowsRegions trace) (y : End) (p : Place) (n : ℕ) (right : Right) (unread : right ≡ rights.Read → ⊥) (past : List (Entry Octets)) where
+  abbrev Since : List (Act Octets) → List (Act Octets) → Type 0
+  Since more done = IsSeenSince (Act Octets) (IsPlacing n right p.stag) p (table_after done) (last_touch p more) (placed_at p n right (acts y past)) (placed_at p n right done)
+
+  next : (more done : List (Act Octets)) (act : Act Octets) → FitsAct (table_after done) act → Since more done → Since (more ++ act ∷ []) (done ++ act ∷ [])
+  next more done act fits k =
+      subst (λ l. IsSeenSince (Act Octets) (IsPlacing n right p.stag) p (table_after (done ++ act ∷ [])) l (placed_at p n right (acts y past)) (placed_at p n right (done ++ act ∷ []))) (sym (touch-push p more act))
+      (seen_step (Act Octets) (IsPlacing n right p.stag) p (placed_at p n right (acts y past)) (table_after done) (table_after (done ++ act ∷ [])) (last_touch p more) (touches p act) act (placed_at p n right done) (placed_at p n right (done ++ act ∷ []))
+      (one_step p n right done act unread fits) k)
+
+  one : (mid pre : List (Entry Octets)) (e : Entry Octets) (post : List (Entry Octets)) → trace ≡ pre ++ e ∷ post → Since (acts y mid) (acts y pre) → Since (acts y (mid ++ e ∷ [])) (acts y (pre ++ e ∷ []))
+  one mid pre e post is k =
+      subst (λ z. Since z (acts y (pre ++ e ∷ []))) (sym (acts-push y mid e))
+      (subst (Since (acts y mid ++ acts_if y e.end e.act)) (sym (acts-push y pre e)) (by y e.end (acts y mid) (acts y pre) k (fits_act (acts e.end pre) e.act (within pre e post is) (answered pre e post is)) refl))
     where
-      by : (y z : End) → IsSeenAt p n right (acts y pre) → FitsAct (table_after (acts z pre)) e.act → IsSeenAt p n right (acts y pre ++ acts_if y z e.act)
-      by A A k fits = next p n right (acts A pre) e.act unread fits k
-      by B B k fits = next p n right (acts B pre) e.act unread fits k
-      by A B k fits = subst (IsSeenAt p n right) (sym (append-nil (acts A pre))) k
-      by B A k fits = subst (IsSeenAt p n right) (sym (append-nil (acts B pre))) k
+      by : (z u : End) (more done : List (Act Octets)) → Since more done → FitsAct (table_after (acts u pre)) e.act → (done ≡ acts z pre) → Since (more ++ acts_if z u e.act) (done ++ acts_if z u e.act)
+      by A A more done k fits at = next more done e.act (subst (λ d. FitsAct (table_after d) e.act) (sym at) fits) k
+      by B B more done k fits at = next more done e.act (subst (λ d. FitsAct (table_after d) e.act) (sym at) fits) k
+      by A B more done k fits at = subst (λ z. Since z (done ++ [])) (sym (append-nil more)) (subst (Since more) (sym (append-nil done)) k)
+      by B A more done k fits at = subst (λ z. Since z (done ++ [])) (sym (append-nil more)) (subst (Since more) (sym (append-nil done)) k)
 
-  from : (pre post future : List (Entry Octets)) → trace ≡ pre ++ (post ++ future) → IsSeenAt p n right (acts y pre) → IsSeenAt p n right (acts y (pre ++ post))
-  from pre [] future is k = subst (λ z. IsSeenAt p n right (acts y z)) (sym (append-nil pre)) k
-  from pre (e ∷ post) future is k =
-      subst (λ z. IsSeenAt p n right (acts y z)) (append_assoc pre (e ∷ []) post)
-      (from (pre ++ e ∷ []) post future (is ∙ sym (append_assoc pre (e ∷ []) (post ++ future))) (one pre e (post ++ future) is k))
+  from : (mid pre post future : List (Entry Octets)) → trace ≡ pre ++ (post ++ future) → Since (acts y mid) (acts y pre) → Since (acts y (mid ++ post)) (acts y (pre ++ post))
+  from mid pre [] future is k = subst (λ z. Since (acts y z) (acts y (pre ++ []))) (sym (append-nil mid)) (subst (λ z. Since (acts y mid) (acts y z)) (sym (append-nil pre)) k)
+  from mid pre (e ∷ post) future is k =
+      subst (λ z. Since (acts y z) (acts y (pre ++ e ∷ post))) (append_assoc mid (e ∷ []) post)
+      (subst (λ z. Since (acts y ((mid ++ e ∷ []) ++ post)) (acts y z)) (append_assoc pre (e ∷ []) post)
+      (from (mid ++ e ∷ []) (pre ++ e ∷ []) post future (is ∙ sym (append_assoc pre (e ∷ []) (post ++ future))) (one mid pre e (post ++ future) is k)))
 
-  seen_at : (past future : List (Entry Octets)) → trace ≡ past ++ future → IsSeenAt p n right (acts y past)
+  seen_since : (since future : List (Entry Octets)) → trace ≡ (past ++ since) ++ future → Since (acts y since) (acts y (past ++ since))
+  unfolding acts last_touch
+  seen_since since future is = from [] past since future (is ∙ append_assoc past since future) (seen_first (Act Octets) (IsPlacing n right p.stag) p (placed_at p n right (acts y past)) (table_after (acts y past)))
+
+  acts_split : (since : List (Entry Octets)) → acts y (past ++ since) ≡ acts y past ++ acts y since
   unfolding acts
-  seen_at past future is = from [] past future is (first p n right)
+  acts_split since = flat_map-append (λ (e : Entry Octets). acts_if y e.end e.act) past since
 
-  -- an octet stands where it was placed, where it is the only one that may be placed there
-  pub there_stands : (past future : List (Entry Octets)) → trace ≡ past ++ future → (octet : ℕ) (messages : List (Request Octets)) → 0 < count_writes (cell_of p octet) (of_right right (placings (stream_acts n (acts y past))))
-      → ((other : ℕ) → count_writes (cell_of p other) (of_right right (placings (stream_acts n (acts y past)))) ≤ count_writes (cell_of p other) messages) → AgreeOn p octet messages → IsUntouched p n right (acts y past) → Holds (table_after (acts y past)) p octet
-  there_stands past future is octet messages some most agree untouched =
-      let k : IsSeenAt p n right (acts y past) = seen_at past future is in
-      let t = k.touched octet some in
-      let w = untouched t.0 t.1 in
-      let last : last_touch p (acts y past) ≡ Some (Stream n (Work (seen.Placed right p.stag w.0 w.1))) = t.1 ∙ ap Some w.2 in
-      let r : IsPut (table_after (acts y past)) p w.0 w.1 = k.put_is n right w.0 w.1 last in
-      let o = some_octet p w.0 w.1 r.low r.high in
-      let same : o.0 ≡ octet = agree o.0 (omega (arith, k.counted w.0 w.1 o.0 last o.1, most o.0)) in
-      standing r.stand ∙ o.1 ∙ ap (λ z. z ∷ []) same
+  -- an octet stands where it was placed since, where no other was
+  pub there_stands : (since future : List (Entry Octets)) → trace ≡ (past ++ since) ++ future → (octet : ℕ) → IsOnlyOne (placed_at p n right (acts y past)) (placed_at p n right (acts y (past ++ since))) octet
+      → IsUntouched p n right (acts y (past ++ since)) → Holds (table_after (acts y (past ++ since))) p octet
+  there_stands since future is octet one untouched =
+      stands_there (Act Octets) (IsPlacing n right p.stag) p (placed_at p n right (acts y past)) (table_after (acts y (past ++ since))) (last_touch p (acts y since)) (placed_at p n right (acts y (past ++ since)))
+      (seen_since since future is) octet one.some one.alone
+      (λ act last. untouched act (ap (last_touch p) (acts_split since) ∙ last_later p (acts y past) (acts y since) act last))

@@ -1,5 +1,5 @@
 -- How each call is answered, and what becomes of octets that come.
-use Rattle.std.specs.Prelude.{◌≡◌, ℕ, ◌+◌, ◌-◌, ◌%◌, ◌^◌, ◌≤◌, ◌==◌, nat_le, nat_lt, not, ◌&&◌, ◌||◌, true, List, ◌∷◌, ◌++◌, length, take, drop, if◌then◌else◌, Option, Some, None, Result, Ok, Err, IfOk}
+use Rattle.std.specs.Prelude.{◌≡◌, ℕ, ◌+◌, ◌-◌, ◌%◌, ◌^◌, ◌≤◌, ◌==◌, nat_le, nat_lt, not, ◌&&◌, ◌||◌, Bool, true, List, ◌∷◌, ◌++◌, length, take, drop, if◌then◌else◌, Option, Some, None, Result, Ok, Err, IfOk}
 use Rattle.std.specs.Option.{option_map, option_map_or, option_or}
 use Rattle.std.specs.Result.{result_err}
 use Rattle.iw_octets.specs.declared.stag.Stag.{Stag}
@@ -26,7 +26,7 @@ use Rattle.iw_stream.specs.Starting.{is_open, most_reads_in, agreement_in, answe
 use Rattle.iw_stream.specs.Stream.{size_refusal, is_read}
 use Rattle.iw_untagged.specs.Receiving.{is_full, is_shared}
 use Rattle.iw_endpoint.specs.declared.refusal.OpenSharedRefusal.{OpenSharedRefusal}
-use Rattle.iw_endpoint.specs.Endpoint.{stream_numbers, share_fault, pool_fault, take_fault, taken, request_refusal, open_shared_refusal_of, unshared}
+use Rattle.iw_endpoint.specs.Endpoint.{Pool as PoolOf, stream_numbers, share_fault, pool_fault, take_fault, taken, request_refusal, open_shared_refusal_of, unshared}
 use Rattle.iw_endpoint.specs.Isolation.{answer_or}
 use Rattle.iw_events.specs.declared.act.Act.{Act}
 use Rattle.iw_events.specs.declared.act.Act.TheVariants.{Domain, Register, Deregister, Invalidate, Store, Open, Share, Pool, Unpool, OpenShared, Stream}
@@ -51,22 +51,33 @@ pub record IsNew (table : Table) (pd : ℕ) (stag : Stag) : Type 0 where
   pub domain : stag.domain ≡ pd
   pub fresh : region_at table stag ≡ None
 
-abbrev pub number_refusal_by : List (Act Octets) → ℕ → ℕ → Option OpenRefusal
-number_refusal_by before n pd =
+-- why no stream is opened under a number, by the regions, and by whether it was used
+abbrev pub number_refusal_in : Table → Bool → ℕ → ℕ → Option OpenRefusal
+number_refusal_in table used n pd =
     if nat_le stream_numbers n then Some BadNumber
-    else if was_opened (openings n before) then Some NumberTaken
-    else if not (is_added (table_after before) pd) then Some NoDomain
+    else if used then Some NumberTaken
+    else if not (is_added table pd) then Some NoDomain
     else None
 
 -- that an enhanced Request has no room for the private data comes after all else
-abbrev pub open_refusal_by : List (Act Octets) → ℕ → ℕ → Role → Config → Option OpenRefusal
-open_refusal_by before n pd role config = option_or (number_refusal_by before n pd) (request_refusal role config)
+abbrev pub open_refusal_in : Table → Bool → ℕ → ℕ → Role → Config → Option OpenRefusal
+open_refusal_in table used n pd role config = option_or (number_refusal_in table used n pd) (request_refusal role config)
 
 -- but for that, that the domain has no pool
+abbrev pub open_shared_refusal_in : Table → Option PoolOf → Bool → ℕ → ℕ → Role → Config → Option OpenSharedRefusal
+open_shared_refusal_in table pool used n pd role config =
+    option_or (option_map open_shared_refusal_of (number_refusal_in table used n pd))
+    (option_or (unshared pool) (option_map open_shared_refusal_of (request_refusal role config)))
+
+abbrev pub number_refusal_by : List (Act Octets) → ℕ → ℕ → Option OpenRefusal
+number_refusal_by before n pd = number_refusal_in (table_after before) (was_opened (openings n before)) n pd
+
+abbrev pub open_refusal_by : List (Act Octets) → ℕ → ℕ → Role → Config → Option OpenRefusal
+open_refusal_by before n pd role config = open_refusal_in (table_after before) (was_opened (openings n before)) n pd role config
+
 abbrev pub open_shared_refusal_by : List (Act Octets) → ℕ → ℕ → Role → Config → Option OpenSharedRefusal
 open_shared_refusal_by before n pd role config =
-    option_or (option_map open_shared_refusal_of (number_refusal_by before n pd))
-    (option_or (unshared (pool_by pd before)) (option_map open_shared_refusal_of (request_refusal role config)))
+    open_shared_refusal_in (table_after before) (pool_by pd before) (was_opened (openings n before)) n pd role config
 
 -- by what was done at the end before
 abbrev pub EndAnswered : List (Act Octets) → Act Octets → Type 0

@@ -1,5 +1,5 @@
 -- What becomes of a stream that has ended.
-use Rattle.std.specs.Prelude.{◌≡◌, ◌⊎◌, Bool, true, false, ℕ, ◌≤◌, List, length, slice_get, Some, None}
+use Rattle.std.specs.Prelude.{◌≡◌, ◌⊎◌, Bool, true, false, not, ◌&&◌, ◌||◌, nat_lt, is_some, if◌then◌else◌, ℕ, ◌≤◌, List, length, slice_get, Option, Some, None}
 use Rattle.iw_queues.specs.declared.request.Kind.{Kind}
 use Rattle.iw_queues.specs.declared.request.Request.{Request}
 use Rattle.iw_queues.specs.Request.{kind_of}
@@ -11,7 +11,9 @@ use Rattle.iw_events.specs.declared.act.Seen.{Seen}
 use Rattle.iw_events.specs.declared.act.Seen.TheVariants as seen
 use Rattle.iw_events.specs.declared.act.Entry.{Entry}
 use Rattle.iw_untagged.specs.Receiving.{first_buffer}
-use Rattle.iw_stream.specs.Ending.{is_broken}
+use Rattle.iw_stream.specs.Ending.{is_broken, last_word}
+use Rattle.iw_stream.specs.Starting.{own_frame}
+use Rattle.iw_endpoint.specs.declared.refusal.NotAtRest.{NotAtRest}
 use Rattle.iw_laws.specs.Words.{Octets, deed, stream_acts, posted, handed_kinds, ended, sent}
 use Rattle.iw_laws.specs.Turns.{Story, story_of}
 use Rattle.iw_laws.specs.Sends.{CanFinish, IsStartFrame, IsLastWord}
@@ -67,6 +69,22 @@ EndShown over t before (Frame from octets) = over ≡ true → IsStartDue t befo
 EndShown over t before (Fetched from frame stag to octets) = over ≡ false
 EndShown over t before (Denied fault) = over ≡ false
 EndShown over t before Nothing = Unit {0}
+
+-- ---- a stream is closed
+
+-- what was posted has not all been handed back
+abbrev pub holds_posted : Story → List (StreamAct Octets) → Bool
+holds_posted t before = nat_lt (length (handed_kinds before)) (length (posted before)) || is_some (first_buffer t.receiving.source)
+
+-- there is a last word to send: the start-up frame, where the link has not broken, or the Terminate that is due
+abbrev pub has_last_word : Story → Octets → Bool
+has_last_word t sent = (not (is_broken t.ending) && nat_lt (length sent) (length (own_frame t.start))) || is_some (last_word t.ending)
+
+-- why a stream is not closed: it has not ended, or holds what was posted, or has a last word to send
+abbrev pub closing_refusal : Story → List (StreamAct Octets) → Option NotAtRest
+closing_refusal t before = if ended before && not (holds_posted t before || has_last_word t (sent before)) then None else Some (record {})
+
+-- ---- the law
 
 abbrev pub EndsStream : List (Act Octets) → ℕ → StreamAct Octets → Type 0
 EndsStream before n act =

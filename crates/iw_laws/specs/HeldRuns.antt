@@ -4,7 +4,9 @@ use Rattle.iw_memory.specs.declared.rights.Right.TheVariants as rights
 use Rattle.iw_ranges.specs.declared.Delivery.TheVariants.{Kept}
 use Rattle.iw_queues.specs.declared.request.Kind.TheVariants as kinds
 use Rattle.iw_stream.specs.declared.answer.Role.TheVariants.{Preset}
-use Rattle.iw_events.specs.declared.act.StreamAct.TheVariants.{Deliver}
+use Rattle.iw_octets.specs.declared.message.Message.TheVariants as messages
+use Rattle.iw_queues.specs.declared.request.Request.TheVariants.{Message as Posted}
+use Rattle.iw_events.specs.declared.act.StreamAct.TheVariants.{Deliver, Post}
 use Rattle.iw_events.specs.declared.act.Seen.TheVariants as seen
 use Rattle.iw_events.specs.declared.act.Act.{Act}
 use Rattle.iw_events.specs.declared.act.Act.TheVariants.{Domain, Register, Invalidate, Store}
@@ -36,6 +38,18 @@ places_other =
     opens a Preset ++ opens b Preset
     ++ (a writes_one ∷ a sends_one ∷ b registers ∷ b (works (seen.Placed rights.Write stag 0 (0xbb ∷ []))) ∷ b (works (seen.Received (0x68 ∷ []) false None)) ∷ [])
 
+-- one of 0xaa is placed so, and the Send behind it is received
+abbrev pub places_once : Run
+places_once =
+    opens a Preset ++ opens b Preset
+    ++ (a writes_one ∷ a sends_one ∷ b registers ∷ b (works (seen.Placed rights.Write stag 0 (0xaa ∷ []))) ∷ b (works (seen.Received (0x68 ∷ []) false None)) ∷ [])
+
+-- then a Write of 0xcc to the same place is placed as 0xdd, and the Send behind that is received
+abbrev pub places_anew : Run
+places_anew =
+    a (on (Post (Posted (messages.Write stag 0 (0xcc ∷ []))) None)) ∷ a sends_one ∷ b (works (seen.Placed rights.Write stag 0 (0xdd ∷ [])))
+    ∷ b (works (seen.Received (0x68 ∷ []) false None)) ∷ []
+
 -- four octets are fetched for a Read, other four are placed, and the Read is done
 abbrev pub sinks_other : Run
 sinks_other =
@@ -46,6 +60,9 @@ sinks_other =
 
 abbrev pub RefusesOtherWritten : Type 0
 RefusesOtherWritten = ¬ HoldsWritten places_other
+
+abbrev pub RefusesOtherWrittenAnew : Type 0
+RefusesOtherWrittenAnew = ¬ HoldsWritten (places_once ++ places_anew)
 
 abbrev pub RefusesOtherFetched : Type 0
 RefusesOtherFetched = ¬ HoldsFetched sinks_other

@@ -1,5 +1,5 @@
 -- What stands in a region once a message has come: the octets of the Writes before a Send that was received, and those that were fetched for a Read that is done.
-use Rattle.std.specs.Prelude.{◌≡◌, ℕ, ◌+◌, ◌<◌, ◌==◌, ◌&&◌, nat_le, nat_lt, Bool, false, if◌then◌else◌, List, [], ◌∷◌, ◌++◌, length, map, take, fold, Option, Some, None, Ok, Err}
+use Rattle.std.specs.Prelude.{◌≡◌, ◌⊎◌, ℕ, zero, suc, ◌+◌, ◌<◌, ◌==◌, ◌&&◌, nat_le, nat_lt, Bool, false, if◌then◌else◌, List, [], ◌∷◌, ◌++◌, length, map, take, fold, Option, Some, None, Ok, Err}
 use Rattle.std.specs.Option.{option_map_or}
 use Rattle.iw_octets.specs.declared.stag.Stag.{Stag}
 use Rattle.iw_octets.specs.Stag.{number_of}
@@ -75,30 +75,53 @@ IsUntouched p n right done = (act : Act Octets) → last_touch p done ≡ Some a
 
 -- ---- the laws
 
--- no Write of these has another octet for the place
-abbrev pub AgreeOn : Place → ℕ → List (Request Octets) → Type 0
-AgreeOn p octet messages = (other : ℕ) → 0 < count_writes (cell_of p other) messages → other ≡ octet
+-- where each cell had been placed so often at least, and at most, at a moment, and now: this octet was placed at the place since, and no other
+pub record IsPlacedSince (p : Place) (octet : ℕ) (least_then most_then least most : Cell → ℕ) : Type 0 where
+  pub new : most_then (cell_of p octet) < least (cell_of p octet)
+  pub alone : (other : ℕ) → least_then (cell_of p other) < most (cell_of p other) → other ≡ octet
 
--- at every moment, where a Send was received on an honest stream: an octet of a Write before it stands at its place, if no Write has another
--- for that place, and nothing but the Writes of this stream has touched it since
+-- the stream was honest at a moment, or that was the first
+abbrev pub WasHonest : ℕ → List (Entry Octets) → Type 0
+WasHonest n past = IsHonest n past ⊎ (past ≡ [])
+
+-- how often a cell is among the Writes before the last of the first so many Sends
+abbrev pub count_whole : Cell → ℕ → List (Request Octets) → ℕ
+count_whole c zero messages = 0
+count_whole c (suc k) messages = count_before c k messages
+
+-- an octet of a Write before a Send that was received, which was posted since a moment, where all Writes that do not lie before the Sends
+-- that had then been received have this octet for the place
+abbrev pub IsWritten : Place → ℕ → ℕ → List (Request Octets) → ℕ → List (Request Octets) → ℕ → Type 0
+IsWritten p octet k older had messages received =
+    (k < received) × IsPlacedSince p octet (λ c. count_whole c had older) (λ c. count_writes c older) (λ c. count_before c k messages) (λ c. count_writes c messages)
+
+-- at every moment, since any before: what an honest stream wrote for a Send that was received stands at its place, if nothing but the Writes
+-- of this stream has touched it
 abbrev pub HoldsWritten : List (Entry Octets) → Type 0
 HoldsWritten trace =
-    (past future : List (Entry Octets)) → trace ≡ past ++ future → (x : End) (n : ℕ) → IsHonest n past →
-    let done : List (Act Octets) = acts (other x) past in
-    let messages : List (Request Octets) = posted (stream_acts n (acts x past)) in
-    (p : Place) (octet k : ℕ) → k < length (received (stream_acts n done)) → 0 < count_before (cell_of p octet) k messages → AgreeOn p octet messages
+    (past since future : List (Entry Octets)) → trace ≡ (past ++ since) ++ future → (x : End) (n : ℕ) → WasHonest n past → IsHonest n (past ++ since) →
+    let old : List (StreamAct Octets) = stream_acts n (acts (other x) past) in
+    let done : List (Act Octets) = acts (other x) (past ++ since) in
+    (p : Place) (octet k : ℕ) → IsWritten p octet k (posted (stream_acts n (acts x past))) (length (received old)) (posted (stream_acts n (acts x (past ++ since)))) (length (received (stream_acts n done)))
     → IsUntouched p n rights.Write done → Holds (table_after done) p octet
 
 -- the responses to the Reads that are done, each as a Write to its sink
 abbrev pub laid_done : Story → Story → List (StreamAct Octets) → List (Request Octets)
 laid_done t asking done = map laid (take (responses_done (ready_of asking) (count_done (finished_kinds done))) t.answers)
 
--- and where a Read is done: an octet that was fetched for it stands at its sink, if none was fetched that is another for that place, and
--- nothing but the responses of this stream has touched it since
+-- an octet that was fetched since a moment for a Read that is done, where all responses but those to the Reads that were then done have this
+-- octet for the place
+abbrev pub IsFetched : Place → ℕ → List (Request Octets) → List (Request Octets) → List (Request Octets) → List (Request Octets) → Type 0
+IsFetched p octet older_done older done responses =
+    IsPlacedSince p octet (λ c. count_writes c older_done) (λ c. count_writes c older) (λ c. count_writes c done) (λ c. count_writes c responses)
+
+-- and what was fetched for a Read that is done stands at its sink, if nothing but the responses of this stream has touched it
 abbrev pub HoldsFetched : List (Entry Octets) → Type 0
 HoldsFetched trace =
-    (past future : List (Entry Octets)) → trace ≡ past ++ future → (x : End) (n : ℕ) → IsHonest n past →
-    let done : List (Act Octets) = acts (other x) past in
+    (past since future : List (Entry Octets)) → trace ≡ (past ++ since) ++ future → (x : End) (n : ℕ) → WasHonest n past → IsHonest n (past ++ since) →
+    let old : List (Act Octets) = acts (other x) past in
+    let done : List (Act Octets) = acts (other x) (past ++ since) in
     let t : Story = story_of n (acts x past) in
-    (p : Place) (octet : ℕ) → 0 < count_writes (cell_of p octet) (laid_done t (story_of n done) (stream_acts n done)) → AgreeOn p octet (responses t)
+    let t' : Story = story_of n (acts x (past ++ since)) in
+    (p : Place) (octet : ℕ) → IsFetched p octet (laid_done t (story_of n old) (stream_acts n old)) (responses t) (laid_done t' (story_of n done) (stream_acts n done)) (responses t')
     → IsUntouched p n rights.Sink done → Holds (table_after done) p octet

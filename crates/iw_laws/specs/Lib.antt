@@ -15,11 +15,14 @@ pub mod Plain
 pub mod Servers
 pub mod ServerLaws
 pub mod ServerRegions
+pub mod ServerMemory
 pub mod ServerStops
 pub mod Holds
+pub mod ServerHolds
 pub mod Busy
 pub mod WrongRuns
 pub mod Isolated
+pub mod ServerIsolated
 pub mod Stops
 pub mod Bounds
 pub mod EarlyRuns

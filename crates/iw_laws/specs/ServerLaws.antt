@@ -1,5 +1,5 @@
 -- What holds of every run of ends that serve any number of connections.
-use Rattle.std.specs.Prelude.{◌≡◌, ◌≢◌, ℕ, ◌==◌, ◌≤◌, false, List, [], ◌∷◌, ◌++◌, length, Option, Some, None, Result, Ok, Err, if◌then◌else◌}
+use Rattle.std.specs.Prelude.{◌≡◌, ◌≢◌, ℕ, ◌+◌, ◌==◌, ◌≤◌, nat_lt, false, List, [], ◌∷◌, ◌++◌, length, Option, Some, None, Result, Ok, Err, if◌then◌else◌}
 use Rattle.std.specs.List.{flat_map}
 use Rattle.std.specs.Option.{option_map}
 use Rattle.iw_octets.specs.declared.stag.Stag.{Stag}
@@ -7,7 +7,7 @@ use Rattle.iw_memory.specs.Region.{retired_region}
 use Rattle.iw_memory.specs.Table.{region_at}
 use Rattle.iw_endpoint.specs.declared.refusal.LimitRefusal.{LimitRefusal}
 use Rattle.iw_endpoint.specs.declared.refusal.NotAtRest.{NotAtRest}
-use Rattle.iw_endpoint.specs.Endpoint.{has_stream, stream_of, stream_at}
+use Rattle.iw_endpoint.specs.Endpoint.{stream_numbers, all_numbers, has_stream, stream_of, stream_at}
 use Rattle.iw_events.specs.declared.call.End.{End}
 use Rattle.iw_events.specs.declared.call.End.TheVariants.{A, B}
 use Rattle.iw_events.specs.declared.act.Act.{Act}
@@ -46,6 +46,10 @@ NoneLimited (e ∷ es) = LimitsNone e.act × NoneLimited es
 abbrev pub OfUnlimited : (List (Entry Octets) → Type 0) → Type 0
 OfUnlimited Law = (name : Connections) (trace : List (ServerEntry Octets)) → AreApart name → ServerFollows name start trace → NoneLimited trace → Law (told name trace)
 
+-- the law holds of each run, whichever streams are connected
+abbrev pub OfConnections : (Connections → List (ServerEntry Octets) → Type 0) → Type 0
+OfConnections Law = (name : Connections) (trace : List (ServerEntry Octets)) → AreApart name → ServerFollows name start trace → Law name trace
+
 -- ---- the life of a stream number
 
 -- the law holds of each run
@@ -69,6 +73,24 @@ server_acts_if B A act = []
 
 abbrev pub server_acts : End → List (ServerEntry Octets) → List (ServerAct Octets)
 server_acts x trace = flat_map (λ e. server_acts_if x e.end e.act) trace
+
+-- how many numbers these gave
+abbrev pub count_given : List (ServerAct Octets) → ℕ
+count_given [] = 0
+count_given (OpenNext pd role options private (Ok n) ∷ done) = 1 + count_given done
+count_given (OpenNext pd role options private (Err refusal) ∷ done) = count_given done
+count_given (OpenSharedNext pd role options private (Ok n) ∷ done) = 1 + count_given done
+count_given (OpenSharedNext pd role options private (Err refusal) ∷ done) = count_given done
+count_given (Plain act ∷ done) = count_given done
+count_given (Stream n act ∷ done) = count_given done
+count_given (Read n from number octets delivery ∷ done) = count_given done
+count_given (ReadRaw n number octets delivery ∷ done) = count_given done
+count_given (RegisterFor n base rights octets answer ∷ done) = count_given done
+count_given (Close n refused ∷ done) = count_given done
+
+-- the number that is given behind so many, from 64 on, as long as it has 32 bits
+abbrev pub number_after : ℕ → Option ℕ
+number_after given = if nat_lt (stream_numbers + given) all_numbers then Some (stream_numbers + given) else None
 
 -- the calls to close the stream of this number, by their answers
 abbrev pub closings_by : ℕ → ServerAct Octets → List (Option NotAtRest)

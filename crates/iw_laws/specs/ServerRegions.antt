@@ -1,16 +1,12 @@
 -- What holds of servers' runs by the regions as they stand, those that are limited to one stream too.
-use Rattle.std.specs.Prelude.{◌≡◌, ℕ, List, [], ◌∷◌, ◌++◌, length, Option, Some, None, Ok, Err, IfOk}
-use Rattle.std.specs.Result.{result_err}
+use Rattle.std.specs.Prelude.{◌≡◌, ℕ, List, [], ◌∷◌, ◌++◌, length, Option, Some, None, Ok, Err}
 use Rattle.iw_memory.specs.Region.{bound_region}
 use Rattle.iw_memory.specs.Laws.{AllowsFor}
-use Rattle.iw_memory.specs.Table.{Table, empty, retired, is_added, domain_refusal, register_refusal, store_refusal}
+use Rattle.iw_memory.specs.Table.{Table, empty, retired}
 use Rattle.iw_stream.specs.Judging.{Standing}
-use Rattle.iw_endpoint.specs.Endpoint.{share_fault, pool_fault, take_fault, taken}
-use Rattle.iw_endpoint.specs.Isolation.{answer_or}
 use Rattle.iw_events.specs.declared.call.End.{End}
 use Rattle.iw_events.specs.declared.call.End.TheVariants.{A, B}
 use Rattle.iw_events.specs.declared.act.Act.{Act}
-use Rattle.iw_events.specs.declared.act.Act.TheVariants as acts
 use Rattle.iw_events.specs.declared.act.StreamAct.{StreamAct}
 use Rattle.iw_events.specs.declared.act.StreamAct.TheVariants.{Deliver, Raw}
 use Rattle.iw_events.specs.declared.server.ServerAct.{ServerAct}
@@ -18,14 +14,13 @@ use Rattle.iw_events.specs.declared.server.ServerAct.TheVariants.{Plain, Stream,
 use Rattle.iw_events.specs.declared.server.ServerEntry.{ServerEntry}
 use Rattle.iw_laws.specs.Words as words
 use Rattle.iw_laws.specs.Words.{Octets, OnSome, deed, of_stream, domain_of, registered_under, size_set, stream_acts, table_by, table_by_stream, ended}
-use Rattle.iw_laws.specs.Calls.{IsNew, deregister_answer, invalidate_refusal}
-use Rattle.iw_laws.specs.Turns.{TurnsSeen, story_of, standing, pool_by}
+use Rattle.iw_laws.specs.Turns.{TurnsSeen, story_of, standing}
 use Rattle.iw_laws.specs.Safe.{InBuffer}
 use Rattle.iw_laws.specs.Faithful.{FetchShown}
 use Rattle.iw_laws.specs.Early.{EarlySeen, SecondSeen}
 use Rattle.iw_laws.specs.Once.{PlacedSeen}
-use Rattle.iw_laws.specs.Rules.{start}
-use Rattle.iw_laws.specs.Servers.{Connections, AreApart, told, ServerFollows}
+use Rattle.iw_laws.specs.Servers.{Connections, told}
+use Rattle.iw_laws.specs.ServerLaws.{OfConnections}
 
 -- ---- the regions of an end
 
@@ -86,7 +81,7 @@ ServerAtEach P name trace =
 
 -- the law holds of each run, whichever streams are connected
 abbrev pub OfServerRegions : (Standing → List (Act Octets) → ℕ → StreamAct Octets → Type 0) → Type 0
-OfServerRegions P = (name : Connections) (trace : List (ServerEntry Octets)) → AreApart name → ServerFollows name start trace → ServerAtEach P name trace
+OfServerRegions P = OfConnections (ServerAtEach P)
 
 -- ---- what they say: as the laws of schedules, which have these words
 
@@ -108,36 +103,3 @@ SecondAs s before n act = OnSome (SecondSeen (story_of n before) s) (deed act).s
 
 abbrev pub PlacedAs : Standing → List (Act Octets) → ℕ → StreamAct Octets → Type 0
 PlacedAs s before n act = OnSome (PlacedSeen (story_of n before) s) (deed act).step
-
--- ---- calls on regions and pools
-
--- one is answered by these regions, and by the pools as they were told
-abbrev pub RegionsAnswer : Table → List (Act Octets) → Act Octets → Type 0
-RegionsAnswer table before (acts.Domain pd refused) = refused ≡ domain_refusal table pd
-RegionsAnswer table before (acts.Register pd base rights octets answer) = (result_err answer ≡ register_refusal table pd base (length octets)) × IfOk answer (IsNew table pd)
-RegionsAnswer table before (acts.Deregister stag answer) = answer ≡ deregister_answer table stag
-RegionsAnswer table before (acts.Invalidate stag refused) = refused ≡ invalidate_refusal table stag
-RegionsAnswer table before (acts.Store stag to octets refused) = refused ≡ store_refusal table stag to (length octets)
-RegionsAnswer table before (acts.Share pd refused) = refused ≡ share_fault (is_added table pd) (pool_by pd before)
-RegionsAnswer table before (acts.Pool pd len refused) = refused ≡ pool_fault (is_added table pd) (pool_by pd before)
-RegionsAnswer table before (acts.Unpool pd answer) = answer ≡ answer_or (take_fault (is_added table pd) (pool_by pd before)) (taken (pool_by pd before))
-RegionsAnswer table before (acts.Open n pd role options private refused) = Unit {0}
-RegionsAnswer table before (acts.OpenShared n pd role options private refused) = Unit {0}
-RegionsAnswer table before (acts.Stream n act) = Unit {0}
-
-abbrev pub plain_act : ServerAct Octets → Option (Act Octets)
-plain_act (Plain act) = Some act
-plain_act (Stream n act) = None
-plain_act (OpenNext pd role options private answer) = None
-plain_act (OpenSharedNext pd role options private answer) = None
-plain_act (Read n from number octets delivery) = None
-plain_act (ReadRaw n number octets delivery) = None
-plain_act (RegisterFor n base rights octets answer) = None
-plain_act (Close n refused) = None
-
--- at every moment
-abbrev pub ServerShowsRegions : Type 0
-ServerShowsRegions =
-    (name : Connections) (trace : List (ServerEntry Octets)) → AreApart name → ServerFollows name start trace
-    → (past : List (ServerEntry Octets)) (e : ServerEntry Octets) (future : List (ServerEntry Octets)) → trace ≡ past ++ e ∷ future
-    → OnSome (RegionsAnswer (server_table name e.end past) (words.acts e.end (told name past))) (plain_act e.act)

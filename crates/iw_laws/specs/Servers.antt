@@ -1,5 +1,5 @@
 -- Runs of ends that serve any number of connections: streams of any number, which come and go.
-use Rattle.std.specs.Prelude.{◌≡◌, ℕ, List, [], ◌∷◌, ◌++◌, length, map, Bool, true, nat_le, nat_lt, unwrap_or, if◌then◌else◌, Some, None, Ok, Err}
+use Rattle.std.specs.Prelude.{◌≡◌, ℕ, List, [], ◌∷◌, ◌++◌, length, map, Bool, true, nat_le, nat_lt, unwrap_or, if◌then◌else◌, Option, Some, None, Ok, Err}
 use Rattle.std.specs.Result.{result_map_both}
 use Rattle.iw_memory.specs.Table.{next_stag}
 use Rattle.iw_stream.specs.Reading.{number_past}
@@ -96,21 +96,23 @@ ServerPeerRule own other peer (OpenSharedNext pd role options private answer) = 
 ServerPeerRule own other peer (RegisterFor n base rights octets answer) = Unit {0}
 ServerPeerRule own other peer (Close n refused) = Unit {0}
 
+-- the right answer at an endpoint whose next number is this
+abbrev pub AnsweredWith : Option ℕ → EndpointState → ServerAct Octets → Type 0
+AnsweredWith next e (Plain act) = EndRule e act
+AnsweredWith next e (Stream n act) = EndRule e (acts.Stream n act)
+AnsweredWith next e (OpenNext pd role options private answer) = answer ≡ answer_or (next_refusal e next pd role (config_for options private)) (unwrap_or next 0)
+AnsweredWith next e (OpenSharedNext pd role options private answer) = answer ≡ answer_or (next_shared_refusal e next pd role (config_for options private)) (unwrap_or next 0)
+-- octets are read past the last that came
+AnsweredWith next e (Read n from number octets delivery) = (number ≡ number_past (stream_at e n)) × EndRule e (acts.Stream n (Deliver from number octets delivery))
+AnsweredWith next e (ReadRaw n number octets delivery) = (number ≡ number_past (stream_at e n)) × EndRule e (acts.Stream n (Raw number octets delivery))
+AnsweredWith next e (RegisterFor n base rights octets answer) =
+    (has_stream e n ≡ true)
+    × (result_map_both (λ stag. stag) Refused answer ≡ answer_or (limit_refusal e n base (length octets)) (next_stag e.table (stream_at e n).domain))
+AnsweredWith next e (Close n refused) = (has_stream e n ≡ true) × (refused ≡ rest_refusal (stream_at e n))
+
 -- the right answer at an end, whatever is done at the other
 abbrev pub ServerEndRule : EndState → ServerAct Octets → Type 0
-ServerEndRule s (Plain act) = EndRule s.endpoint act
-ServerEndRule s (Stream n act) = EndRule s.endpoint (acts.Stream n act)
-ServerEndRule s (OpenNext pd role options private answer) =
-    answer ≡ answer_or (next_refusal s.endpoint (next_number s.endpoint) pd role (config_for options private)) (unwrap_or (next_number s.endpoint) 0)
-ServerEndRule s (OpenSharedNext pd role options private answer) =
-    answer ≡ answer_or (next_shared_refusal s.endpoint (next_number s.endpoint) pd role (config_for options private)) (unwrap_or (next_number s.endpoint) 0)
--- octets are read past the last that came
-ServerEndRule s (Read n from number octets delivery) = (number ≡ number_past (stream_at s.endpoint n)) × EndRule s.endpoint (acts.Stream n (Deliver from number octets delivery))
-ServerEndRule s (ReadRaw n number octets delivery) = (number ≡ number_past (stream_at s.endpoint n)) × EndRule s.endpoint (acts.Stream n (Raw number octets delivery))
-ServerEndRule s (RegisterFor n base rights octets answer) =
-    (has_stream s.endpoint n ≡ true)
-    × (result_map_both (λ stag. stag) Refused answer ≡ answer_or (limit_refusal s.endpoint n base (length octets)) (next_stag s.endpoint.table (stream_at s.endpoint n).domain))
-ServerEndRule s (Close n refused) = (has_stream s.endpoint n ≡ true) × (refused ≡ rest_refusal (stream_at s.endpoint n))
+ServerEndRule s act = AnsweredWith (next_number s.endpoint) s.endpoint act
 
 -- the right answer at an end of two, where the streams of both belong to these connections
 abbrev pub ServerRule : (ℕ → ℕ) → (ℕ → ℕ) → EndState → EndState → ServerAct Octets → Type 0
@@ -118,16 +120,19 @@ ServerRule own other s peer act = ServerEndRule s act × ServerPeerRule own othe
 
 -- ---- what an entry leaves
 
--- the call of the endpoint that an act made
+-- the call of the endpoint that an act made, where its next number was this
+abbrev pub call_with : Option ℕ → ServerAct Octets → calls.Call
+call_with next (Plain act) = call_made act
+call_with next (Stream n act) = calls.AtStream n (stream_call_made act)
+call_with next (OpenNext pd role options private answer) = calls.OpenNext next pd role (config_for options private)
+call_with next (OpenSharedNext pd role options private answer) = calls.OpenSharedNext next pd role (config_for options private)
+call_with next (Read n from number octets delivery) = calls.AtStream n (calls.Deliver number octets)
+call_with next (ReadRaw n number octets delivery) = calls.AtStream n (calls.Deliver number octets)
+call_with next (RegisterFor n base rights octets answer) = calls.AtStream n (calls.RegisterFor base octets rights)
+call_with next (Close n refused) = calls.AtStream n calls.Close
+
 abbrev pub server_call : EndpointState → ServerAct Octets → calls.Call
-server_call e (Plain act) = call_made act
-server_call e (Stream n act) = calls.AtStream n (stream_call_made act)
-server_call e (OpenNext pd role options private answer) = calls.OpenNext (next_number e) pd role (config_for options private)
-server_call e (OpenSharedNext pd role options private answer) = calls.OpenSharedNext (next_number e) pd role (config_for options private)
-server_call e (Read n from number octets delivery) = calls.AtStream n (calls.Deliver number octets)
-server_call e (ReadRaw n number octets delivery) = calls.AtStream n (calls.Deliver number octets)
-server_call e (RegisterFor n base rights octets answer) = calls.AtStream n (calls.RegisterFor base octets rights)
-server_call e (Close n refused) = calls.AtStream n calls.Close
+server_call e act = call_with (next_number e) act
 
 -- a number that is given has emitted nothing; what a stream emitted stays when it is closed, and may be on its way
 abbrev pub server_wires : List Octets → ServerAct Octets → List Octets

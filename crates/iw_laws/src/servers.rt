@@ -6,7 +6,7 @@
 //! leave. What it tells, in words of schedules, is what it did: each stream under the name of its connection, opened where
 //! it was given its number, each read as the delivery that it is, and of a close, and of a region for one stream, nothing.
 
-ghost use Rattle.iw_laws.specs.ServerLaws.{OfServers, OfUnlimited, OfServerRuns, GivesOnce, ClosedIsOver, CloseLeavesOthers, CloseLeavesRegions};
+ghost use Rattle.iw_laws.specs.ServerLaws.{OfServers, OfUnlimited, OfServerRuns, OfConnections, GivesOnce, ClosedIsOver, CloseLeavesOthers, CloseLeavesRegions};
 ghost use Rattle.iw_laws.specs.Safe.{InOrder, Covered, Within};
 ghost use Rattle.iw_laws.specs.Faithful.{Faithful, Answering};
 ghost use Rattle.iw_laws.specs.Sends.{Emission, Sized, Speaks, NothingOnlyAtRest, Finished, FewReads};
@@ -20,7 +20,10 @@ ghost use Rattle.iw_laws.specs.Once.{PlacesOnce, NonePlacedTwice};
 ghost use Rattle.iw_laws.specs.Ends.{Ends};
 ghost use Rattle.iw_laws.specs.Calls.{Answered, KeepsOctets, CarriesOctets, OpensFirst};
 ghost use Rattle.iw_laws.specs.Plain.{ShowsRegions};
-ghost use Rattle.iw_laws.specs.ServerRegions.{OfServerRegions, WithinAs, FetchAs, TurnsAs, EarlyAs, SecondAs, PlacedAs, ServerShowsRegions};
+ghost use Rattle.iw_laws.specs.ServerRegions.{OfServerRegions, WithinAs, FetchAs, TurnsAs, EarlyAs, SecondAs, PlacedAs};
+ghost use Rattle.iw_laws.specs.ServerMemory.{ServerShowsMemory};
+ghost use Rattle.iw_laws.specs.ServerHolds.{ServerHoldsWritten, ServerHoldsFetched};
+ghost use Rattle.iw_laws.specs.ServerIsolated.{ServerIsolated};
 
 /// Each law of schedules that names a stream, and does not speak of the regions as they stand, holds of the streams of servers,
 /// whatever their numbers, and whichever streams are connected.
@@ -83,8 +86,19 @@ pub fn keep_the_laws_by_regions()
     ensures no_second_check { OfServerRegions SecondAs }
     // Each placement is that of the frame that is judged then.
     ensures placed { OfServerRegions PlacedAs }
-    // Each call on regions or pools is answered by them.
-    ensures regions { ServerShowsRegions }
+    // Each call on regions or pools, each opening, each registration and each close is answered by the regions, the pools
+    // and the streams as they stand: so a stream that is closed has ended, holds nothing, and has no more to send.
+    ensures memory { OfConnections ServerShowsMemory }
+    // When a Send is received, the octets of the Writes before it stand where they were written; when a Read is done,
+    // those that were fetched for it stand at its sink; unless others were put there.
+    ensures holds_written { OfConnections ServerHoldsWritten }
+    ensures holds_fetched { OfConnections ServerHoldsFetched }
+{}
+
+/// The acts of an end that concern a domain are answered as where no other domain is, if no number that the application picks is
+/// asked for in two domains.
+pub fn keep_domains_apart()
+    ensures { OfServerRuns ServerIsolated }
 {}
 
 /// In words of schedules, which tell nothing of a region that is limited to one stream, the laws that speak of regions hold of
