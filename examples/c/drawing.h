@@ -10,11 +10,11 @@
 ssize_t getrandom(void *octets, size_t n, unsigned int flags);
 #endif
 
-/* Random bits of the system's, which is asked for some at a time. If it gives none, ends the program. */
+/* Random bits of the system's, which each thread asks for some at a time. If it gives none, ends the program. */
 static inline uint32_t random_bits(void) {
     enum { DRAWN = 64 }; /* 256 octets, which getrandom gives whole */
-    static uint32_t drawn[DRAWN];
-    static size_t left;
+    static _Thread_local uint32_t drawn[DRAWN];
+    static _Thread_local size_t left;
     if (left == 0) {
         if (getrandom(drawn, sizeof drawn, 0) != (ssize_t)sizeof drawn) {
             perror("getrandom");
