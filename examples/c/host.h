@@ -11,18 +11,29 @@ static inline int64_t seconds(void) {
     return now.tv_sec;
 }
 
+/* Lets the program have as many descriptors as it may, in place of as many as it has by default. */
+static inline void raise_descriptors(void) {
+    struct rlimit descriptors;
+    if (getrlimit(RLIMIT_NOFILE, &descriptors) != 0) return;
+    descriptors.rlim_cur = descriptors.rlim_max;
+    setrlimit(RLIMIT_NOFILE, &descriptors);
+}
+
 /* ---- the words of a program */
 
-/* The words behind a program's name, and how it is used. */
+/* The words behind a program's name, and how it is used; or an option and its value, and null. */
 struct words {
     int n;
     char **at;
     const char *usage;
 };
 
-/* Says what is wrong with a word, and how the program is used, and ends it. */
+/* Says what is wrong with a word, and how the program is used, and ends it. Of an option it says that in one line. */
 static inline void misused(const struct words *words, const char *word, const char *why) {
-    fprintf(stderr, "%s%s\n\n%s", word, why, words->usage);
+    if (words->usage)
+        fprintf(stderr, "%s%s\n\n%s", word, why, words->usage);
+    else
+        fprintf(stderr, "%s%s%s%s\n", words->at[0], *word ? " " : ": ", word, why);
     exit(2);
 }
 

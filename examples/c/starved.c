@@ -1,13 +1,13 @@
 /* Memory that is refused at random, for a program that is linked with -Wl,--wrap=malloc,--wrap=calloc,--wrap=realloc: behind the
- * first SPARED requests, by which the program begins, one in ODDS is refused. */
+ * first SPARED requests of each thread, by which it begins, one in ODDS is refused. */
 #include <stddef.h>
 #include <stdint.h>
 
 enum { SPARED = 50, ODDS = 40 };
 
 static int refuses(void) {
-    static uint64_t state = 1;
-    static unsigned long requests;
+    static _Thread_local uint64_t state = 1;
+    static _Thread_local unsigned long requests;
     state ^= state << 13;
     state ^= state >> 7;
     state ^= state << 17;
