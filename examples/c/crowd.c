@@ -20,6 +20,7 @@ static int poller, wrong;
 static long count, together, live, answered;
 static long arrived; /* how many are open, or over */
 static int posting;
+static int waits; /* for a line, before it posts */
 
 static void must(int32_t code, const char *call) {
     if (code == IWARP_OK) return;
@@ -125,9 +126,19 @@ static void begin(struct initiator *initiator, long number, unsigned short port)
 
 /* ---- all of them */
 
+/* Tells that enough are open, and waits until a line came, or the end of input. */
+static void wait_for_line(void) {
+    char octet;
+    puts("open");
+    fflush(stdout);
+    while (read(0, &octet, 1) == 1 && octet != '\n') {
+    }
+}
+
 /* Posts at those that are open, once enough are. */
 static void begin_to_post(void) {
     if (posting || arrived < together) return;
+    if (waits) wait_for_line();
     posting = 1;
     for (struct initiator *initiator = initiators; initiator < initiators + count; initiator++) {
         if (!initiator->open || initiator->carried.fd < 0) continue;
@@ -154,23 +165,28 @@ static void serve(void) {
 }
 
 static const char usage[] =
-    "usage: crowd PORT COUNT [OPTIONS [TOGETHER]]\n"
+    "usage: crowd [--wait] PORT COUNT [OPTIONS [TOGETHER]]\n"
     "\n"
     "Makes COUNT connections to `target`, all at once, and prints how many were answered, and how\n"
     "many were closed in place of that. The status is 1 if another text came back, or nothing was\n"
     "heard for 60 seconds.\n"
     "\n"
     "  PORT      1 to 65535\n"
-    "  COUNT     1 to 100000; each takes a descriptor (ulimit -n)\n"
+    "  COUNT     1 to 100000; each takes a descriptor (ulimit -Hn)\n"
     "  OPTIONS   a sum of 1 for markers, 2 for CRCs and 4 for revision 2 of MPA; 0 if left out\n"
-    "  TOGETHER  nothing is posted before so many are open, or were closed; 1 if left out\n";
+    "  TOGETHER  nothing is posted before so many are open, or were closed; 1 if left out\n"
+    "  --wait    prints `open` then, and posts once a line came at standard input\n";
 
 int main(int n, char **all) {
+    waits = n > 1 && strcmp(all[1], "--wait") == 0;
+    n -= waits;
+    all += waits;
     struct words words = words_of(n, all, 2, 4, usage);
     unsigned short port = (unsigned short)number_of(&words, 0, 1, 65535, 0);
     count = number_of(&words, 1, 1, MOST, 0);
     options = (uint32_t)number_of(&words, 2, 0, IWARP_MARKERS | IWARP_CRC | IWARP_ENHANCED, 0);
     together = number_of(&words, 3, 1, count, 1);
+    raise_descriptors();
     initiators = calloc((size_t)count, sizeof *initiators);
     poller = epoll_create1(0);
     if (!initiators || poller < 0) return 1;
