@@ -38,8 +38,10 @@ void *__wrap_malloc(size_t n) { return refuses() ? 0 : __real_malloc(n); }
 
 void *__wrap_realloc(void *at, size_t n) { return refuses() ? 0 : __real_realloc(at, n); }
 
+static const char *doing; /* what is tried: the name of a call, or two ends */
+
 static void wrong(int line, const char *what) {
-    printf("seed %llu, line %d: %s\n", (unsigned long long)round_seed, line, what);
+    printf("seed %llu, %s, line %d: %s\n", (unsigned long long)round_seed, doing, line, what);
     exit(1);
 }
 
@@ -702,72 +704,75 @@ static void call_fetch_sent(const struct call *call) {
  * that come and go. */
 enum { OF_MEMORY = 18 * 21, OF_STREAMS = 23 * 21, OF_OCTETS = 18 * 23 * 3 };
 
+#define ROW(name, often) {#name, often, call_##name}
+
 static const struct {
-    void (*make)(const struct call *call);
+    const char *name;
     uint32_t often;
+    void (*make)(const struct call *call);
 } calls[] = {
-    {call_add_domain, OF_MEMORY},
-    {call_register, OF_MEMORY},
-    {call_register_for, OF_MEMORY},
-    {call_register_as, OF_MEMORY},
-    {call_register_buffer, OF_MEMORY},
-    {call_register_buffer_for, OF_MEMORY},
-    {call_register_buffer_as, OF_MEMORY},
-    {call_register_memory, OF_MEMORY},
-    {call_deregister, OF_MEMORY},
-    {call_deregister_buffer, OF_MEMORY},
-    {call_deregister_memory, OF_MEMORY},
-    {call_drop_region, OF_MEMORY},
-    {call_region_at, OF_MEMORY},
-    {call_region_facts, OF_MEMORY},
-    {call_facts, OF_MEMORY},
-    {call_invalidate, OF_MEMORY},
-    {call_store, OF_MEMORY},
-    {call_load, OF_MEMORY},
-    {call_buffer_new, OF_MEMORY},
-    {call_buffer_free, OF_MEMORY},
-    {call_truncate, OF_MEMORY},
-    {call_drop_front, OF_MEMORY},
-    {call_new_with, OF_MEMORY},
-    {call_open, OF_STREAMS},
-    {call_open_next, OF_STREAMS},
-    {call_open_shared, OF_STREAMS},
-    {call_open_shared_next, OF_STREAMS},
-    {call_close, OF_STREAMS},
-    {call_accept, OF_STREAMS},
-    {call_reject, OF_STREAMS},
-    {call_private, OF_STREAMS},
-    {call_told, OF_STREAMS},
-    {call_peer_facts, OF_STREAMS},
-    {call_state, OF_STREAMS},
-    {call_break, OF_STREAMS},
-    {call_set_mulpdu, OF_STREAMS},
-    {call_first_number, OF_STREAMS},
-    {call_share, OF_STREAMS},
-    {call_post_shared, OF_STREAMS},
-    {call_post_shared_buffer, OF_STREAMS},
-    {call_take_shared_buffer, OF_STREAMS},
-    {call_post, OF_OCTETS},
-    {call_post_buffer, OF_OCTETS},
-    {call_post_send, OF_OCTETS},
-    {call_post_send_buffer, OF_OCTETS},
-    {call_post_write, OF_OCTETS},
-    {call_post_write_buffer, OF_OCTETS},
-    {call_post_read, OF_OCTETS},
-    {call_post_recv, OF_OCTETS},
-    {call_post_recv_buffer, OF_OCTETS},
-    {call_room, OF_OCTETS},
-    {call_deliver, OF_OCTETS},
-    {call_emit_and_deliver, OF_OCTETS},
-    {call_emit, OF_OCTETS},
-    {call_emit_onto, OF_OCTETS},
-    {call_fill, OF_OCTETS},
-    {call_due, OF_OCTETS},
-    {call_work, OF_OCTETS},
-    {call_progress, OF_OCTETS},
-    {call_fetch, OF_OCTETS},
-    {call_fetch_buffer, OF_OCTETS},
-    {call_fetch_sent, OF_OCTETS},
+    ROW(add_domain, OF_MEMORY),
+    ROW(register, OF_MEMORY),
+    ROW(register_for, OF_MEMORY),
+    ROW(register_as, OF_MEMORY),
+    ROW(register_buffer, OF_MEMORY),
+    ROW(register_buffer_for, OF_MEMORY),
+    ROW(register_buffer_as, OF_MEMORY),
+    ROW(register_memory, OF_MEMORY),
+    ROW(deregister, OF_MEMORY),
+    ROW(deregister_buffer, OF_MEMORY),
+    ROW(deregister_memory, OF_MEMORY),
+    ROW(drop_region, OF_MEMORY),
+    ROW(region_at, OF_MEMORY),
+    ROW(region_facts, OF_MEMORY),
+    ROW(facts, OF_MEMORY),
+    ROW(invalidate, OF_MEMORY),
+    ROW(store, OF_MEMORY),
+    ROW(load, OF_MEMORY),
+    ROW(buffer_new, OF_MEMORY),
+    ROW(buffer_free, OF_MEMORY),
+    ROW(truncate, OF_MEMORY),
+    ROW(drop_front, OF_MEMORY),
+    ROW(new_with, OF_MEMORY),
+    ROW(open, OF_STREAMS),
+    ROW(open_next, OF_STREAMS),
+    ROW(open_shared, OF_STREAMS),
+    ROW(open_shared_next, OF_STREAMS),
+    ROW(close, OF_STREAMS),
+    ROW(accept, OF_STREAMS),
+    ROW(reject, OF_STREAMS),
+    ROW(private, OF_STREAMS),
+    ROW(told, OF_STREAMS),
+    ROW(peer_facts, OF_STREAMS),
+    ROW(state, OF_STREAMS),
+    ROW(break, OF_STREAMS),
+    ROW(set_mulpdu, OF_STREAMS),
+    ROW(first_number, OF_STREAMS),
+    ROW(share, OF_STREAMS),
+    ROW(post_shared, OF_STREAMS),
+    ROW(post_shared_buffer, OF_STREAMS),
+    ROW(take_shared_buffer, OF_STREAMS),
+    ROW(post, OF_OCTETS),
+    ROW(post_buffer, OF_OCTETS),
+    ROW(post_send, OF_OCTETS),
+    ROW(post_send_buffer, OF_OCTETS),
+    ROW(post_write, OF_OCTETS),
+    ROW(post_write_buffer, OF_OCTETS),
+    ROW(post_read, OF_OCTETS),
+    ROW(post_recv, OF_OCTETS),
+    ROW(post_recv_buffer, OF_OCTETS),
+    ROW(room, OF_OCTETS),
+    ROW(deliver, OF_OCTETS),
+    ROW(emit_and_deliver, OF_OCTETS),
+    ROW(emit, OF_OCTETS),
+    ROW(emit_onto, OF_OCTETS),
+    ROW(fill, OF_OCTETS),
+    ROW(due, OF_OCTETS),
+    ROW(work, OF_OCTETS),
+    ROW(progress, OF_OCTETS),
+    ROW(fetch, OF_OCTETS),
+    ROW(fetch_buffer, OF_OCTETS),
+    ROW(fetch_sent, OF_OCTETS),
 };
 
 enum { CALLS = sizeof calls / sizeof *calls };
@@ -784,11 +789,13 @@ static void make_one(struct iwarp *handle, struct iwarp *other, struct iwarp_buf
         for (size_t i = 0; i < CALLS; i++) all += calls[i].often;
     uint32_t left = below(all), which = 0;
     while (left >= calls[which].often) left -= calls[which++].often;
+    doing = calls[which].name;
     calls[which].make(&call);
 }
 
 static void any_calls(void) {
     registered_pieces = 0;
+    doing = "new";
     for (int i = 0; i < HANDLES; i++) {
         refused_before = refused;
         if (!answered(iwarp_new(&handles[i]))) handles[i].at = 0;
@@ -802,6 +809,7 @@ static void any_calls(void) {
         memcpy(before, out, sizeof out);
         make_one(handle, other, buffer);
         if (below(2000) == 0) {
+            doing = "new";
             iwarp_free(handle);
             refused_before = refused;
             answered(iwarp_new(handle));
@@ -1162,6 +1170,7 @@ static void finish(struct sender *sender) {
 
 static void two_ends(void) {
     uint32_t options = below(4);
+    doing = "two ends";
     for (int i = 0; i < 2; i++) ends[i] = (struct sender){.end = IWARP_CLOSED, .sent = ends[i].sent};
     for (int i = 0; i < 2; i++) begin(&ends[i], &ends[1 - i], options);
     for (int i = 0; i < 2000; i++) {
