@@ -21,6 +21,13 @@ uint16_t check_get_features(struct command *command) {
     return STATUS_SUCCESS;
 }
 
+/* ---- what is read */
+
+static uint16_t tell(struct command *command, uint32_t value) {
+    command->result = value;
+    return STATUS_SUCCESS;
+}
+
 /* The threshold that a value names: of the one temperature there is. Returns null if it names none. */
 static uint16_t *threshold_of(struct controller *controller, uint32_t value, uint32_t most_sensor) {
     uint32_t sensor = value >> TEMPERATURE_SENSOR & 0xf, kind = value >> TEMPERATURE_KIND & 0x3;
@@ -31,62 +38,36 @@ static uint16_t *threshold_of(struct controller *controller, uint32_t value, uin
 static uint16_t get_threshold(struct command *command) {
     uint32_t value = (uint32_t)field(command->sqe + SQE_CDW11, 4);
     const uint16_t *threshold = threshold_of(command->queue->controller, value, 0);
-    if (!threshold) return invalid(STATUS_INVALID_FIELD);
-    command->result = *threshold;
+    return threshold ? tell(command, *threshold) : invalid(STATUS_INVALID_FIELD);
+}
+
+/* Number of Queues: each field is one less than a number. */
+static uint16_t get_queues(struct command *command) {
+    uint32_t most = command->queue->controller->io_queues - 1;
+    return tell(command, most | most << 16);
+}
+
+static uint16_t get_host_id(struct command *command) {
+    memcpy(command->data, command->queue->controller->host_id, HOST_ID_OCTETS);
     return STATUS_SUCCESS;
 }
 
-void run_get_features(struct command *command) {
-    const struct controller *controller = command->queue->controller;
-    uint32_t most = controller->io_queues - 1;
-    uint16_t status = STATUS_SUCCESS;
-    switch (command->sqe[SQE_CDW10]) {
-    case FEATURE_ARBITRATION:
-    case FEATURE_POWER:
-        break;
-    case FEATURE_TEMPERATURE:
-        status = get_threshold(command);
-        break;
-    case FEATURE_ERROR_RECOVERY:
-        command->result = controller->recovery;
-        break;
-    case FEATURE_WRITE_CACHE:
-        command->result = 1;
-        break;
-    case FEATURE_QUEUES:
-        command->result = most | most << 16;
-        break;
-    case FEATURE_ATOMICITY:
-        command->result = controller->atomicity;
-        break;
-    case FEATURE_ASYNC_EVENTS:
-        command->result = controller->event_mask;
-        break;
-    case FEATURE_KEEP_ALIVE:
-        command->result = controller->keep_alive;
-        break;
-    case FEATURE_HOST_ID:
-        memcpy(command->data, controller->host_id, HOST_ID_OCTETS);
-        break;
-    default:
-        status = invalid(STATUS_INVALID_FIELD);
-    }
-    command_complete(command, status);
+static uint16_t get_nothing(struct command *command) { return tell(command, 0); }
+static uint16_t get_recovery(struct command *command) { return tell(command, command->queue->controller->recovery); }
+static uint16_t get_write_cache(struct command *command) { return tell(command, 1); }
+static uint16_t get_atomicity(struct command *command) { return tell(command, command->queue->controller->atomicity); }
+static uint16_t get_events(struct command *command) { return tell(command, command->queue->controller->event_mask); }
+static uint16_t get_keep_alive(struct command *command) { return tell(command, command->queue->controller->keep_alive); }
+
+/* ---- what is set */
+
+static uint16_t set_nothing(struct command *command, uint32_t value) {
+    (void)command, (void)value;
+    return STATUS_SUCCESS;
 }
 
-/* Number of Queues: as many as are asked for, at most MOST_IO_QUEUES. The fields are one less than the numbers. */
-static uint16_t set_queues(struct command *command, uint32_t asked) {
+static uint16_t set_threshold(struct command *command, uint32_t value) {
     struct controller *controller = command->queue->controller;
-    uint32_t submission = asked & 0xffff, completion = asked >> 16, least = submission < completion ? submission : completion;
-    if (submission == 0xffff || completion == 0xffff) return invalid(STATUS_INVALID_FIELD);
-    for (int i = 1; i <= MOST_IO_QUEUES; i++)
-        if (controller->io[i]) return invalid(STATUS_COMMAND_SEQUENCE_ERROR);
-    controller->io_queues = least + 1 < MOST_IO_QUEUES ? least + 1 : MOST_IO_QUEUES;
-    command->result = (controller->io_queues - 1) | (controller->io_queues - 1) << 16;
-    return STATUS_SUCCESS;
-}
-
-static uint16_t set_threshold(struct controller *controller, uint32_t value) {
     uint16_t *threshold = threshold_of(controller, value, TEMPERATURE_ALL);
     if (!threshold) return invalid(STATUS_INVALID_FIELD);
     *threshold = (uint16_t)value;
@@ -95,47 +76,84 @@ static uint16_t set_threshold(struct controller *controller, uint32_t value) {
 }
 
 /* There are no deallocated blocks of which a Read could tell. */
-static uint16_t set_recovery(struct controller *controller, uint32_t value) {
+static uint16_t set_recovery(struct command *command, uint32_t value) {
     if (value & RECOVERY_DULBE) return invalid(STATUS_INVALID_FIELD);
-    controller->recovery = value & RECOVERY_TLER;
+    command->queue->controller->recovery = value & RECOVERY_TLER;
     return STATUS_SUCCESS;
 }
 
-void run_set_features(struct command *command) {
+/* It stays: the system's cache cannot be turned off. */
+static uint16_t set_write_cache(struct command *command, uint32_t value) {
+    (void)command;
+    return value & 1 ? STATUS_SUCCESS : invalid(STATUS_INVALID_FIELD);
+}
+
+/* As many as are asked for, at most MOST_IO_QUEUES. */
+static uint16_t set_queues(struct command *command, uint32_t asked) {
     struct controller *controller = command->queue->controller;
+    uint32_t submission = asked & 0xffff, completion = asked >> 16, least = submission < completion ? submission : completion;
+    if (submission == 0xffff || completion == 0xffff) return invalid(STATUS_INVALID_FIELD);
+    for (int i = 1; i <= MOST_IO_QUEUES; i++)
+        if (controller->io[i]) return invalid(STATUS_COMMAND_SEQUENCE_ERROR);
+    controller->io_queues = least + 1 < MOST_IO_QUEUES ? least + 1 : MOST_IO_QUEUES;
+    return get_queues(command);
+}
+
+static uint16_t set_atomicity(struct command *command, uint32_t value) {
+    command->queue->controller->atomicity = value & 1;
+    return STATUS_SUCCESS;
+}
+
+static uint16_t set_events(struct command *command, uint32_t value) {
+    command->queue->controller->event_mask = value;
+    events_tell(command->queue->controller);
+    return STATUS_SUCCESS;
+}
+
+static uint16_t set_keep_alive(struct command *command, uint32_t value) {
+    controller_keep_alive(command->queue->controller, value);
+    return STATUS_SUCCESS;
+}
+
+/* Connect has told it. */
+static uint16_t set_host_id(struct command *command, uint32_t value) {
+    (void)command, (void)value;
+    return invalid(STATUS_COMMAND_SEQUENCE_ERROR);
+}
+
+/* ---- all features */
+
+static const struct feature {
+    uint8_t number;
+    uint16_t (*get)(struct command *command);
+    uint16_t (*set)(struct command *command, uint32_t value);
+} features[] = {
+    {FEATURE_ARBITRATION, get_nothing, set_nothing},
+    {FEATURE_POWER, get_nothing, set_nothing},
+    {FEATURE_TEMPERATURE, get_threshold, set_threshold},
+    {FEATURE_ERROR_RECOVERY, get_recovery, set_recovery},
+    {FEATURE_WRITE_CACHE, get_write_cache, set_write_cache},
+    {FEATURE_QUEUES, get_queues, set_queues},
+    {FEATURE_ATOMICITY, get_atomicity, set_atomicity},
+    {FEATURE_ASYNC_EVENTS, get_events, set_events},
+    {FEATURE_KEEP_ALIVE, get_keep_alive, set_keep_alive},
+    {FEATURE_HOST_ID, get_host_id, set_host_id},
+};
+
+/* The one that a command names, or null. */
+static const struct feature *feature_of(const struct command *command) {
+    for (size_t i = 0; i < sizeof features / sizeof *features; i++)
+        if (features[i].number == command->sqe[SQE_CDW10]) return &features[i];
+    return 0;
+}
+
+void run_get_features(struct command *command) {
+    const struct feature *feature = feature_of(command);
+    command_complete(command, feature ? feature->get(command) : invalid(STATUS_INVALID_FIELD));
+}
+
+void run_set_features(struct command *command) {
+    const struct feature *feature = feature_of(command);
     uint32_t value = (uint32_t)field(command->sqe + SQE_CDW11, 4);
-    uint16_t status = STATUS_SUCCESS;
-    switch (command->sqe[SQE_CDW10]) {
-    case FEATURE_ARBITRATION:
-    case FEATURE_POWER:
-        break;
-    case FEATURE_TEMPERATURE:
-        status = set_threshold(controller, value);
-        break;
-    case FEATURE_ERROR_RECOVERY:
-        status = set_recovery(controller, value);
-        break;
-    case FEATURE_WRITE_CACHE: /* it stays: the system's cache cannot be turned off */
-        if (!(value & 1)) status = invalid(STATUS_INVALID_FIELD);
-        break;
-    case FEATURE_QUEUES:
-        status = set_queues(command, value);
-        break;
-    case FEATURE_ATOMICITY:
-        controller->atomicity = value & 1;
-        break;
-    case FEATURE_ASYNC_EVENTS:
-        controller->event_mask = value;
-        events_tell(controller);
-        break;
-    case FEATURE_HOST_ID: /* Connect has told it */
-        status = invalid(STATUS_COMMAND_SEQUENCE_ERROR);
-        break;
-    case FEATURE_KEEP_ALIVE:
-        controller_keep_alive(controller, value);
-        break;
-    default:
-        status = invalid(STATUS_INVALID_FIELD);
-    }
-    command_complete(command, status);
+    command_complete(command, feature ? feature->set(command, value) : invalid(STATUS_INVALID_FIELD));
 }
