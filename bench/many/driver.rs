@@ -16,8 +16,9 @@ const TURNS: usize = 7;
 /// How many connections there are at a time.
 const ALIVE: u32 = 1_000;
 
-/// What each Write carries.
+/// What each Write carries; and a short one.
 const WRITE: usize = 4_096;
+const FEW: usize = 64;
 
 /// The octets of the four regions, which are not counted.
 const REGIONS: usize = 4 << 24;
@@ -30,6 +31,9 @@ const MAX_LOOK: f64 = 1.1;
 
 /// How many octets each of 10,000 idle streams may hold.
 const MAX_IDLE: f64 = 2_700.0;
+
+/// How many octets each of 4,000 streams may hold that brought few, by reads of as many as a read takes.
+const MAX_FEW: f64 = 12_000.0;
 
 /// How many octets each of 10,000 streams that have ended may hold.
 const MAX_ENDED: f64 = 4_096.0;
@@ -61,8 +65,7 @@ fn serve(connections: u32, alive: u32) {
     assert_eq!(unsafe { many_serve(connections, alive, octets.as_ptr(), octets.len()) }, connections);
 }
 
-fn read(connections: u32, most: usize) {
-    let octets = [7; WRITE];
+fn read(connections: u32, most: usize, octets: &[u8]) {
     assert_eq!(unsafe { many_read(connections, most, octets.as_ptr(), octets.len()) }, connections);
 }
 
@@ -129,7 +132,7 @@ fn look_up(streams: u32, turns: usize) -> f64 {
 /// What each connection that was read holds, by reads of at most so many octets; 0 for as many as a read takes.
 fn show_read(most: usize) {
     let mut took = 0.0;
-    let held = most_held(|| took = time(|| read(READ, most))) - REGIONS;
+    let held = most_held(|| took = time(|| read(READ, most, &[7; WRITE]))) - REGIONS;
     let each = (took / f64::from(READ), held as f64 / f64::from(READ));
     let most = if most == 0 { 65_536 } else { most };
     results::row(&format!("a stream read by {most}"), each.0, 1, "us a connection");
@@ -151,6 +154,8 @@ fn main() {
     wanted.at_most("an idle stream of 10,000", a_stream(false), MAX_IDLE, "octets");
     results::row("one that shares a pool", a_stream(true), 0, "octets");
     wanted.at_most("a stream that has ended", ended(IDLE) as f64 / f64::from(IDLE), MAX_ENDED, "octets");
+    let few = most_held(|| read(READ, 0, &[7; FEW])) - REGIONS;
+    wanted.at_most("a stream that brought few octets", few as f64 / f64::from(READ), MAX_FEW, "octets");
     [0, 16_384, 4_096, 512].into_iter().for_each(show_read);
     std::process::exit((wanted.missed > 0).into());
 }
