@@ -1,6 +1,7 @@
 /* Loads of blocks:
  *
- *     load nvme PORT read|write OCTETS DEPTH MS     a host of the target (examples/nvme), one I/O queue
+ *     load nvme PORT read|write OCTETS DEPTH MS     a host of the target (examples/nvme), one I/O queue; with one word more, N:
+ *                                                   N hosts, each a thread
  *     load plain PORT read|write OCTETS DEPTH MS    the same of the plain server below
  *     load serve MIB                                the plain server: blocks in memory, over TCP, with headers of 16 octets. It
  *                                                   prints `port N`, and serves one connection
@@ -9,7 +10,7 @@
  * connections are made. */
 #include "../../examples/nvme/host.h"
 
-enum { BUFFERED = 262144, HEAD = 16, MOST_DEPTH = 128, AT_OP = 0, AT_TAG = 2, AT_N = 4, AT_BLOCK = 8, PARTS = 64 };
+enum { BUFFERED = 262144, HEAD = 16, MOST_DEPTH = 128, AT_OP = 0, AT_TAG = 2, AT_N = 4, AT_BLOCK = 8, PARTS = 64, MOST_HOSTS = 16 };
 
 static uint64_t now_ns(int clock) {
     struct timespec time;
@@ -60,17 +61,31 @@ static void submit(struct host_queue *queue, uint16_t slot, struct load *load) {
     host_submit(queue, slot);
 }
 
-static void run_nvme(unsigned port, struct load *load) {
-    struct host host = {.address = "127.0.0.1", .nqn = "nqn.2026-11.example:iwarp", .port = port, .mulpdu = MOST_MULPDU};
-    if (!host_begin(&host, 1, HOST_DEPTH)) die("connect");
-    struct host_queue *queue = host.queues[1];
-    load->blocks = host.blocks;
+/* A host, and what it does. Each begins at another part of the blocks. */
+struct loaded {
+    struct host host;
+    struct load load;
+    pthread_t thread;
+};
+
+static void connect_host(struct loaded *it, unsigned port, const struct load *load, unsigned part, unsigned parts) {
+    it->host = (struct host){.address = "127.0.0.1", .nqn = "nqn.2026-11.example:iwarp", .port = port, .mulpdu = MOST_MULPDU};
+    if (!host_begin(&it->host, 1, HOST_DEPTH)) die("connect");
+    struct host_queue *queue = it->host.queues[1];
+    it->load = *load;
+    it->load.blocks = it->host.blocks;
+    it->load.next = it->host.blocks / parts * part;
     for (uint16_t slot = 0; slot < load->depth; slot++) {
         host_command(queue, slot, 0, 0);
         memset(host_map(queue, slot, load->octets, SGL_KEYED), slot, load->octets);
         host_unmap(queue, slot);
     }
-    begin(load);
+}
+
+static void *carry_nvme(void *given) {
+    struct loaded *it = given;
+    struct load *load = &it->load;
+    struct host_queue *queue = it->host.queues[1];
     for (uint16_t slot = 0; slot < load->depth; slot++) submit(queue, slot, load);
     while (!is_over(load)) {
         if (!host_step(queue, 100)) die("the target has ended the connection");
@@ -82,7 +97,22 @@ static void run_nvme(unsigned port, struct load *load) {
             submit(queue, slot, load);
         }
     }
-    host_end(&host);
+    return 0;
+}
+
+static void run_nvme(unsigned port, struct load *load, unsigned hosts) {
+    static struct loaded all[MOST_HOSTS];
+    for (unsigned i = 0; i < hosts; i++) connect_host(&all[i], port, load, i, hosts);
+    begin(load);
+    for (unsigned i = 0; i < hosts; i++) all[i].load.until = load->until;
+    for (unsigned i = 1; i < hosts; i++)
+        if (pthread_create(&all[i].thread, 0, carry_nvme, &all[i]) != 0) die("thread");
+    carry_nvme(&all[0]);
+    for (unsigned i = 1; i < hosts; i++) pthread_join(all[i].thread, 0);
+    for (unsigned i = 0; i < hosts; i++) {
+        load->commands += all[i].load.commands;
+        host_end(&all[i].host);
+    }
 }
 
 /* ---- plain: octets that come, and parts that go */
@@ -211,13 +241,14 @@ int main(int n, char **words) {
     keep_memory();
     signal(SIGPIPE, SIG_IGN);
     if (n == 3 && strcmp(words[1], "serve") == 0) return serve(strtoull(words[2], 0, 10));
-    if (n != 7) return 2;
+    unsigned hosts = n == 8 ? (unsigned)strtoull(words[7], 0, 10) : 1;
+    if (n < 7 || n > 8 || hosts == 0 || hosts > MOST_HOSTS) return 2;
     unsigned port = (unsigned)strtoull(words[2], 0, 10);
     struct load load = {.writes = strcmp(words[3], "write") == 0, .octets = (uint32_t)strtoull(words[4], 0, 10),
         .depth = (uint32_t)strtoull(words[5], 0, 10), .ms = strtoull(words[6], 0, 10), .blocks = (64u << 20) / HOST_LBA};
     if (load.depth == 0 || load.depth > MOST_DEPTH || load.octets < HOST_LBA || load.octets > BUFFERED - HEAD) return 2;
     if (strcmp(words[1], "nvme") == 0)
-        run_nvme(port, &load);
+        run_nvme(port, &load, hosts);
     else
         run_plain(port, &load);
     uint64_t spent = now_ns(CLOCK_PROCESS_CPUTIME_ID) - load.spent;
