@@ -76,7 +76,7 @@ void command_begin(struct command *command, size_t n) {
         return;
     }
     struct controller *controller = command->queue->controller;
-    if (controller) controller->heard = command->queue->target->now;
+    if (controller && !controller->has_spoken) controller->has_spoken = 1; /* read, mostly, so that loops share it */
     command->number = command->queue->came++;
     command->queue->begun++;
     command->then = 0;
@@ -270,7 +270,9 @@ void command_store(struct command *command, enum job_kind kind, uint64_t at, uin
 
 void command_stored(struct job *job) {
     struct command *command = command_of(job);
-    command->queue->jobs--;
+    struct queue *queue = command->queue;
+    queue->jobs--;
+    if (queue->jobs == 0 && queue_is_starting(queue->state)) place_rests(queue);
     take_stored(command);
 }
 

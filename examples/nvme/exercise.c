@@ -489,7 +489,7 @@ static void keeps_alive(void) {
     host_end(&alive);
 }
 
-static int plain_connection(void) {
+int plain_connection(void) {
     struct sockaddr_in address = {.sin_family = AF_INET, .sin_port = htons((unsigned short)port)};
     address.sin_addr.s_addr = htonl(0x7f000001);
     int fd = socket(AF_INET, SOCK_STREAM, 0);
@@ -727,7 +727,7 @@ static void few_files(void) {
     compares();
 }
 
-static void expect_close(int fd) {
+void expect_close(int fd) {
     struct pollfd polled = {fd, POLLIN, 0};
     CHECK(poll(&polled, 1, 6000) == 1);
     close(fd);
@@ -826,7 +826,7 @@ static void is_read_only(void) {
 
 /* ---- a target that is killed, or told to end, while it works */
 
-enum { VERSIONED = 4096, IN_HAND = 16, LONGEST_RUN = 40, KILL_AFTER = 300 };
+enum { VERSIONED = 4096, QUEUES = 4, IN_HAND = 16, LONGEST_RUN = 40, KILL_AFTER = 300 };
 
 /* A block has the version that was answered with success last, or the one that was asked for last; 0: zeroes. At most one Write
  * of a block is under way. At a loss of power it has at least the one that was flushed. */
@@ -838,7 +838,7 @@ static struct {
     uint32_t from, count; /* 0: a Flush, or nothing */
     int durable;
     uint32_t sure[VERSIONED]; /* a Flush: when it was asked for */
-} runs[3][IN_HAND];
+} runs[1 + QUEUES][IN_HAND];
 
 static uint64_t mark_of(uint32_t block, uint32_t version) {
     return (uint64_t)version << 32 | (block + 1);
@@ -902,7 +902,7 @@ static void flushes(void) {
 
 /* Whether a Write of these blocks is under way. */
 static int is_under_way(uint32_t from, uint32_t count) {
-    for (int i = 0; i < 3 * IN_HAND; i++) {
+    for (int i = 0; i < (1 + QUEUES) * IN_HAND; i++) {
         uint32_t first = runs[i / IN_HAND][i % IN_HAND].from, end = first + runs[i / IN_HAND][i % IN_HAND].count;
         if (first < end && first < from + count && from < end) return 1;
     }
@@ -958,14 +958,14 @@ static int take_answers(struct host_queue *queue) {
     return count;
 }
 
-/* Writes by two queues, and sends the target a signal in the middle. Returns how many answers came after it. */
+/* Writes by four queues, and sends the target a signal in the middle. Returns how many answers came after it. */
 static int write_until(struct host *host, int number) {
     int answers = 0, late = 0, goes_on = 1;
     load_model();
-    CHECK(host_begin(host, 2, HOST_DEPTH));
+    CHECK(host_begin(host, QUEUES, HOST_DEPTH));
     while (goes_on) {
         int was_sent = answers >= KILL_AFTER;
-        for (uint16_t id = 1; id <= 2; id++) {
+        for (uint16_t id = 1; id <= QUEUES; id++) {
             for (uint16_t slot = 0; !was_sent && slot < IN_HAND; slot++)
                 if (!host->queues[id]->slots[slot].in_hand) begin_run(host->queues[id], slot);
             goes_on = host_step(host->queues[id], 1) && goes_on;
@@ -975,7 +975,7 @@ static int write_until(struct host *host, int number) {
         }
         if (!was_sent && answers >= KILL_AFTER) CHECK(kill(target_process(), number) == 0);
     }
-    for (uint16_t id = 1; id <= 2; id++) {
+    for (uint16_t id = 1; id <= QUEUES; id++) {
         for (int i = 0; i < 1000 && host_step(host->queues[id], 1); i++) late += take_answers(host->queues[id]);
         late += take_answers(host->queues[id]);
     }
@@ -1057,6 +1057,9 @@ static const struct {
     {"logs", has_logs},           {"is-interrupted", is_interrupted},
     {"flushes", flushes},         {"strange-name", has_a_strange_name},
     {"stood-flushed", stood_flushed}, {"holds-device", holds_device},
+    {"spreads", spreads},         {"shares-places", shares_places},
+    {"meets", meets},             {"ends-elsewhere", ends_elsewhere},
+    {"resets", resets},
 };
 
 int main(int n, char **words) {

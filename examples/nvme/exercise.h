@@ -1,4 +1,4 @@
-/* What the tests of exercise.c, orders.c and states.c share. */
+/* What the tests of exercise.c, orders.c, states.c and cores.c share. */
 #ifndef EXERCISE_H
 #define EXERCISE_H
 
@@ -33,6 +33,15 @@ int read_blocks(struct host_queue *queue, uint64_t from, uint8_t *octets, size_t
 /* Deallocates blocks, by a range in the host's memory. */
 uint8_t *map_range(struct host_queue *queue, uint16_t slot, uint64_t from, uint32_t count);
 
+/* Begins a short Write; or a Write Zeroes of the first 32 MiB. Whether what was written stands there. */
+void put_write(struct host_queue *queue, uint16_t slot, uint64_t from, uint64_t mark);
+void put_zeroes(struct host_queue *queue, uint16_t slot);
+int has_mark(struct host_queue *queue, uint64_t from, uint64_t mark);
+
+/* A connection that says nothing; and waits until the target has closed it. */
+int plain_connection(void);
+void expect_close(int fd);
+
 /* Sets a property of the controller, or gets it: the slot's result. Return the status. */
 int set_property(struct host_queue *queue, uint16_t slot, uint32_t offset, uint64_t value);
 int get_property(struct host_queue *queue, uint16_t slot, uint32_t offset);
@@ -65,5 +74,10 @@ void has_features(void);
 void has_logs(void);
 void has_a_strange_name(void);
 void holds_device(void);
+void spreads(void);
+void shares_places(void);
+void meets(void);
+void ends_elsewhere(void);
+void resets(void);
 
 #endif

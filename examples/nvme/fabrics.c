@@ -1,43 +1,134 @@
 /* Fabrics commands: Connect, Property Get, Property Set; and controllers, which begin and end with them. */
 #include "target.h"
 
-/* ---- controllers */
+/* ---- controllers. With the lock, where it says so */
 
-static struct controller *find_controller(struct target *target, uint16_t id) {
-    for (struct controller *it = target->controllers; it < target->controllers + MOST_CONTROLLERS; it++)
+static void lock(struct target *target) {
+    pthread_mutex_lock(&target->controllers.lock);
+}
+
+static void unlock(struct target *target) {
+    pthread_mutex_unlock(&target->controllers.lock);
+}
+
+/* With the lock. */
+static struct controller *find_controller(struct controllers *controllers, uint16_t id) {
+    for (struct controller *it = controllers->all; it < controllers->all + MOST_CONTROLLERS; it++)
         if (it->id == id) return it;
     return 0;
 }
 
-/* A controller with an identifier that none has. Returns null if there are MOST_CONTROLLERS. */
-static struct controller *new_controller(struct target *target) {
-    struct controller *controller = find_controller(target, 0);
+/* With the lock: one that is none, and that no queue names. */
+static struct controller *find_free(struct controllers *controllers) {
+    for (struct controller *it = controllers->all; it < controllers->all + MOST_CONTROLLERS; it++)
+        if (it->id == 0 && it->queues == 0) return it;
+    return 0;
+}
+
+/* With the lock: a controller with an identifier that none has. Returns null if there are MOST_CONTROLLERS. */
+static struct controller *new_controller(struct queue *admin) {
+    struct controllers *controllers = &admin->target->controllers;
+    struct controller *controller = find_free(controllers);
     if (!controller) return 0;
-    do target->last_id = target->last_id == CNTLID_MOST ? 1 : (uint16_t)(target->last_id + 1);
-    while (find_controller(target, target->last_id));
+    do controllers->last_id = controllers->last_id == CNTLID_MOST ? 1 : (uint16_t)(controllers->last_id + 1);
+    while (find_controller(controllers, controllers->last_id));
     memset(controller, 0, sizeof *controller);
-    controller->id = target->last_id;
+    controller->id = controllers->last_id;
+    controller->queues = 1;
+    controller->admin = admin;
     controller->io_queues = MOST_IO_QUEUES;
     features_reset(controller);
-    controller->heard = target->now;
+    controller->heard = admin->loop->now;
     return controller;
 }
 
+/* With the lock: the controller is not ready, and has no I/O queues any more. Those of other loops are cut off, so that none of
+ * their commands is done behind what comes from now on; their loops close them. Puts the others into a list. */
+static void let_go(struct controller *controller, const struct loop *loop, struct queue **own) {
+    controller->state = 0;
+    for (int i = 1; i <= MOST_IO_QUEUES; i++) {
+        struct queue *queue = controller->io[i];
+        controller->io[i] = 0;
+        if (!queue) continue;
+        if (queue->loop == loop) {
+            *own++ = queue;
+        } else {
+            order_cut(&queue->target->store.order, &queue->lane);
+            queue_end(queue);
+        }
+    }
+    *own = 0;
+}
+
 static void close_io_queues(struct controller *controller) {
-    for (int i = 1; i <= MOST_IO_QUEUES; i++)
-        if (controller->io[i]) queue_close(controller->io[i]);
+    struct queue *own[MOST_IO_QUEUES + 1], *admin = controller->admin;
+    lock(admin->target);
+    let_go(controller, admin->loop, own);
+    unlock(admin->target);
+    for (struct queue **it = own; *it; it++) queue_close(*it);
 }
 
 void controller_close(struct controller *controller) {
     struct queue *admin = controller->admin;
-    controller->admin = 0;
-    close_io_queues(controller);
-    if (admin) {
-        admin->controller = 0;
-        say(admin->target, "controller %d: gone", controller->id);
-        queue_close(admin);
-    }
+    lock(admin->target);
     controller->id = 0;
+    unlock(admin->target);
+    close_io_queues(controller);
+    admin->controller = 0;
+    say(admin->target, "controller %d: gone", admin->controller_id);
+    controller_leave(controller, admin);
+    queue_close(admin);
+}
+
+/* Where the target ends, an admin queue waits for its I/O queues. */
+void controller_leave(struct controller *controller, struct queue *queue) {
+    lock(queue->target);
+    controller->queues--;
+    if (queue == controller->admin)
+        controller->admin = 0;
+    else if (controller->io[queue->id] == queue)
+        controller->io[queue->id] = 0;
+    if (queue->target->ends && controller->admin) loop_wake(controller->admin->loop);
+    unlock(queue->target);
+}
+
+/* With the lock. */
+static int has_io(const struct controller *controller) {
+    for (int i = 1; i <= MOST_IO_QUEUES; i++)
+        if (controller->io[i]) return 1;
+    return 0;
+}
+
+int controller_has_io(struct controller *controller) {
+    lock(controller->admin->target);
+    int has = has_io(controller);
+    unlock(controller->admin->target);
+    return has;
+}
+
+int controller_grant(struct controller *controller, uint32_t io_queues) {
+    lock(controller->admin->target);
+    int is_granted = !has_io(controller);
+    if (is_granted) controller->io_queues = io_queues;
+    unlock(controller->admin->target);
+    return is_granted;
+}
+
+/* Whether one of its connections has octets that were not read: its loop has not had a turn, perhaps. */
+static int has_unread(struct controller *controller) {
+    struct pollfd polled[1 + MOST_IO_QUEUES] = {{controller->admin->fd, POLLIN, 0}};
+    lock(controller->admin->target);
+    for (int i = 1; i <= MOST_IO_QUEUES; i++)
+        polled[i] = (struct pollfd){controller->io[i] ? controller->io[i]->fd : -1, POLLIN, 0};
+    int found = poll(polled, 1 + MOST_IO_QUEUES, 0);
+    unlock(controller->admin->target);
+    return found > 0;
+}
+
+int controller_is_silent(struct controller *controller) {
+    uint64_t now = controller->admin->loop->now;
+    if (atomic_exchange(&controller->has_spoken, 0)) controller->heard = now;
+    return controller->keep_alive != 0 && now - controller->heard > controller->keep_alive && !has_unread(controller);
 }
 
 /* ---- Connect */
@@ -72,26 +163,31 @@ static void connect_admin(struct command *command, int discovery) {
         refuse(command, INVALID_IN_DATA | CONNECT_CNTLID);
         return;
     }
-    struct controller *controller = new_controller(queue->target);
+    lock(queue->target);
+    struct controller *controller = new_controller(queue);
+    if (controller) {
+        controller->discovery = discovery;
+        queue->controller_id = controller->id;
+        memcpy(controller->host_id, command->data + CONNECT_HOST_ID, HOST_ID_OCTETS);
+        memcpy(controller->host_nqn, command->data + CONNECT_HOSTNQN, NQN_OCTETS);
+    }
+    unlock(queue->target);
     if (!controller) {
         command_complete(command, STATUS_CONNECT_BUSY);
         return;
     }
-    controller->discovery = discovery;
-    controller->admin = queue;
     controller_keep_alive(controller, (uint32_t)field(command->sqe + CONNECT_KATO, 4));
-    memcpy(controller->host_id, command->data + CONNECT_HOST_ID, HOST_ID_OCTETS);
-    memcpy(controller->host_nqn, command->data + CONNECT_HOSTNQN, NQN_OCTETS);
     queue->controller = controller;
     char name[4 * NQN_OCTETS + 1];
     escape(name, sizeof name, (const char *)controller->host_nqn);
-    say(queue->target, "controller %d: %s of %s", controller->id, discovery ? "discovery" : "host", name);
+    say(queue->target, "controller %d: %s of %s", queue->controller_id, discovery ? "discovery" : "host", name);
 }
 
+/* With the lock. */
 static void connect_io(struct command *command, uint16_t id) {
     struct queue *queue = command->queue;
     uint16_t of = (uint16_t)field(command->data + CONNECT_CNTLID, 2);
-    struct controller *controller = of == 0 ? 0 : find_controller(queue->target, of);
+    struct controller *controller = of == 0 ? 0 : find_controller(&queue->target->controllers, of);
     if (!controller || controller->discovery)
         refuse(command, INVALID_IN_DATA | CONNECT_CNTLID);
     else if (memcmp(controller->host_id, command->data + CONNECT_HOST_ID, HOST_ID_OCTETS) != 0)
@@ -104,8 +200,16 @@ static void connect_io(struct command *command, uint16_t id) {
         command_complete(command, invalid(STATUS_COMMAND_SEQUENCE_ERROR));
     else {
         queue->controller = controller;
+        queue->controller_id = of;
         controller->io[id] = queue;
+        controller->queues++;
     }
+}
+
+static void connect_locked(struct command *command, uint16_t id) {
+    lock(command->queue->target);
+    connect_io(command, id);
+    unlock(command->queue->target);
 }
 
 /* Whether a host may connect that says to have this name. */
@@ -138,13 +242,13 @@ static void run_connect(struct command *command) {
         if (id == 0)
             connect_admin(command, discovery);
         else
-            connect_io(command, id);
+            connect_locked(command, id);
         if (!queue->controller) return;
         queue->id = id;
         queue->depth = (uint16_t)depth;
         queue->no_flow = (command->sqe[CONNECT_CATTR] & CATTR_NO_SQ_FLOW) != 0;
         queue_enter(queue, CONNECTED);
-        command->result = queue->controller->id;
+        command->result = queue->controller_id;
         command_complete(command, STATUS_SUCCESS);
     }
 }
@@ -187,7 +291,6 @@ static void set_configuration(struct controller *controller, uint32_t configurat
         controller->state = controller->discovery || is_possible(configuration) ? CSTS_READY : CSTS_FATAL;
     if (!(configuration & CC_ENABLE) && was & CC_ENABLE) {
         close_io_queues(controller);
-        controller->state = 0;
         controller->shutdown = 0;
         features_reset(controller);
         events_drop(controller);

@@ -93,9 +93,8 @@ static uint16_t set_queues(struct command *command, uint32_t asked) {
     struct controller *controller = command->queue->controller;
     uint32_t submission = asked & 0xffff, completion = asked >> 16, least = submission < completion ? submission : completion;
     if (submission == 0xffff || completion == 0xffff) return invalid(STATUS_INVALID_FIELD);
-    for (int i = 1; i <= MOST_IO_QUEUES; i++)
-        if (controller->io[i]) return invalid(STATUS_COMMAND_SEQUENCE_ERROR);
-    controller->io_queues = least + 1 < MOST_IO_QUEUES ? least + 1 : MOST_IO_QUEUES;
+    uint32_t granted = least + 1 < MOST_IO_QUEUES ? least + 1 : MOST_IO_QUEUES;
+    if (!controller_grant(controller, granted)) return invalid(STATUS_COMMAND_SEQUENCE_ERROR);
     return get_queues(command);
 }
 

@@ -1,7 +1,7 @@
 /* A hostile host against the target, in one process:
  *
- *     fuzz CAPSULES [SEED [FILE]]
- *     fuzz large [SEED [FILE]]
+ *     fuzz [LOOPSx]CAPSULES [SEED [FILE]]
+ *     fuzz [LOOPSx]large [SEED [FILE]]
  *
  * sends capsules that are valid but for what was changed at random: fields of the command, its descriptor, the data in the
  * capsule, its length; Connects; start-up frames; Writes to the sinks of another host. What the target writes must lie where its
@@ -10,6 +10,7 @@
  * and reads at once what that one was at, while the target's threads are slow to end it, and must not notice. Then the whole disk
  * is compared with a model (model.h).
  *
+ * The target has one loop, or as many as are given: the first has its turns where the hosts have theirs, the others have threads.
  * The disk is memory, or the file, which is made. `large` is 100,000 capsules and 1,000 lives over memory, and as many over the
  * file, if one is named, else over memory once more. */
 #include "breaks.h"
@@ -49,15 +50,60 @@ static void die(const char *why) {
 
 /* ---- the target */
 
+enum { TURN_US = 50 };
+
+static unsigned loops = 1;
+static pthread_t threads[MOST_LOOPS];
+static pthread_mutex_t turns[MOST_LOOPS]; /* a loop has a turn */
+static _Atomic int pauses, ends_turns; /* loops that have threads have no turns, for a while; or never more */
+
+static void turn_of(unsigned loop, int most_ms) {
+    lucky_turn = (struct lucky_turn){.goes_on = 1};
+    if (!loop_turn(&target.loops[loop], most_ms)) die("the target cannot go on");
+    lucky_turn.goes_on = 0;
+    if (lucky_turn.sent > MOST_SENT_IN_TURN) die("a queue sends on and on");
+    if (lucky_turn.accepted > MOST_ACCEPTED) die("connections are accepted on and on");
+}
+
+static void *run_loop(void *given) {
+    unsigned loop = (unsigned)((struct loop *)given - target.loops);
+    while (!ends_turns) {
+        while (pauses) usleep(TURN_US);
+        pthread_mutex_lock(&turns[loop]);
+        turn_of(loop, 1);
+        pthread_mutex_unlock(&turns[loop]);
+    }
+    return 0;
+}
+
+static void begin_loops(void) {
+    ends_turns = 0;
+    for (unsigned i = 1; i < loops; i++) pthread_mutex_init(&turns[i], 0);
+    for (unsigned i = 1; i < loops; i++)
+        if (pthread_create(&threads[i], 0, run_loop, &target.loops[i]) != 0) die("no thread");
+}
+
+static void end_loops(void) {
+    ends_turns = 1;
+    for (unsigned i = 1; i < loops; i++) pthread_join(threads[i], 0);
+}
+
+/* Has no loop have a turn, until they go on. */
+static void pause_loops(void) {
+    pauses = 1;
+    for (unsigned i = 1; i < loops; i++) pthread_mutex_lock(&turns[i]);
+}
+
+static void resume_loops(void) {
+    for (unsigned i = 1; i < loops; i++) pthread_mutex_unlock(&turns[i]);
+    pauses = 0;
+}
+
+/* A turn of the first loop; others have theirs meanwhile. */
 static void turn(void) {
-    luck.sent = 0;
-    luck.accepted = 0;
-    luck.in_turn = 1;
-    if (!target_turn(&target, patience)) die("the target cannot go on");
-    luck.in_turn = 0;
+    turn_of(0, patience);
+    if (loops > 1 && !patience) usleep(TURN_US);
     if (luck.sync_failed && !failed) failed = ++model.clock;
-    if (luck.sent > MOST_SENT_IN_TURN) die("a queue sends on and on");
-    if (luck.accepted > MOST_ACCEPTED) die("connections are accepted on and on");
 }
 
 static struct host new_host(void) {
@@ -81,6 +127,7 @@ static void look(void) {
     static uint8_t disk[DISK_MIB << 20];
     const uint8_t *octets = target.store.ram;
     uint64_t n = target.store.blocks * LBA_OCTETS;
+    pause_loops();
     if (!octets && pread(target.store.fd, disk, n, 0) != (ssize_t)n) die("the file cannot be read");
     uint64_t block = model_look(&model, octets ? octets : disk);
     if (block < model.blocks) {
@@ -88,13 +135,17 @@ static void look(void) {
         printf("block %d begins with %02x %02x %02x %02x\n", (int)block, at[0], at[1], at[2], at[3]);
         die("a block has what nobody sent for it");
     }
+    resume_loops();
     looks++;
 }
 
 /* How many queues the target has whose end it does not know. */
 static uint32_t open_queues(void) {
     uint32_t count = 0;
-    for (const struct queue *it = target.queues; it; it = it->next) count += it->state != CLOSED;
+    pause_loops();
+    for (unsigned i = 0; i < loops; i++)
+        for (const struct queue *it = target.loops[i].queues; it; it = it->next) count += it->state != CLOSED;
+    resume_loops();
     return count;
 }
 
@@ -111,7 +162,7 @@ static void wait_for_ends(uint32_t count) {
 /* Waits until the target has only so many queues. */
 static void wait_for_queues(uint32_t count) {
     patience = 1;
-    for (int i = 0; target.queues_made > count; i++) {
+    for (int i = 0; place_count(&target.places) > count; i++) {
         if (i == WAITS) die("connections are left");
         turn();
     }
@@ -593,12 +644,20 @@ static void live(void) {
 
 /* ---- the honest host */
 
-/* The STag of a sink that awaits its data. */
-static uint32_t find_sink(void) {
-    for (const struct queue *queue = target.queues; queue; queue = queue->next)
+/* The STag of a sink that awaits its data; or 0. */
+static uint32_t sink_of(const struct loop *loop) {
+    for (const struct queue *queue = loop->queues; queue; queue = queue->next)
         for (uint32_t i = 0; i < queue->commands_made; i++)
             if (queue->state == CONNECTED && queue->commands[i].sink) return queue->commands[i].sink;
     return 0;
+}
+
+static uint32_t find_sink(void) {
+    uint32_t sink = 0;
+    pause_loops();
+    for (unsigned i = 0; i < loops && sink == 0; i++) sink = sink_of(&target.loops[i]);
+    resume_loops();
+    return sink;
 }
 
 /* While the honest host's data is awaited, a host at the same address, which has guessed the STag of the sink, writes there. */
@@ -608,14 +667,16 @@ static void reach(struct host_queue *honest) {
     uint32_t sink = 0;
     if (!host_begin(&hostile, 1, HOSTILE_DEPTH)) die("a host is not served");
     host_write_out(honest);
+    patience = loops > 1;
     for (int i = 0; i < STEPS && sink == 0; i++) {
         turn();
         sink = find_sink();
     }
     if (sink == 0) die("the honest host's command has no sink");
     if (endpoint_write(&hostile.queues[1]->endpoint, sink, 0, guess, sizeof guess) != IWARP_OK) die("no Write");
-    for (int i = 0; i < STEPS && host_step(hostile.queues[1], 0); i++) {
+    for (int i = 0; i < STEPS * (int)loops && host_step(hostile.queues[1], 0); i++) {
     }
+    patience = 0;
     if (!hostile.queues[1]->ended) die("a Write to another host's sink is taken");
     if (find_sink() != sink) die("another host's sink is gone");
     host_end(&hostile);
@@ -726,7 +787,96 @@ static void check_spent(void) {
     close(error);
 }
 
+/* ---- several loops, with the honest host */
+
+/* The loop that has a queue of a host's controller. */
+static unsigned loop_of(const struct host *host, uint16_t id) {
+    unsigned found = loops;
+    pause_loops();
+    for (unsigned i = 0; i < loops; i++)
+        for (const struct queue *it = target.loops[i].queues; it; it = it->next)
+            if (it->state == CONNECTED && it->controller_id == host->controller && it->id == id) found = i;
+    resume_loops();
+    return found;
+}
+
+/* Begins a host with an I/O queue in a loop that has a thread, and neither the admin queue nor the honest host's I/O queue.
+ * Returns the loop. */
+static unsigned begin_apart(struct host *host, const struct host *honest) {
+    if (!host_begin(host, 1, HOSTILE_DEPTH)) die("a host is not served");
+    unsigned apart = loop_of(host, 1);
+    if (apart == loops || apart == 0 || apart == loop_of(host, 0) || apart == loop_of(honest, 1)) die("queues are not spread");
+    return apart;
+}
+
+/* Sends a command of the first blocks, or a Flush, from a host's I/O queue. */
+static void put(struct host_queue *queue, uint8_t opcode, uint8_t octet) {
+    host_command(queue, 0, opcode, NSID);
+    if (opcode != IO_FLUSH) host_blocks(queue->slots[0].capsule, 0, HONEST_OCTETS / LBA_OCTETS);
+    if (opcode != IO_FLUSH) memset(host_map(queue, 0, HONEST_OCTETS, SGL_KEYED), octet, HONEST_OCTETS);
+    host_submit(queue, 0);
+    if (!host_write_out(queue)) die("a capsule is not written");
+}
+
+/* A Write whose data is awaited; then its loop stands still, and the data comes. */
+static void leave_to_read(struct host_queue *queue, unsigned apart) {
+    put(queue, IO_WRITE, 0x77);
+    for (int i = 0; find_sink() == 0; i++) {
+        if (i == WAITS) die("a Write has no sink");
+        turn();
+    }
+    pthread_mutex_lock(&turns[apart]);
+    for (int i = 0; i < STEPS; i++) host_step(queue, 0);
+}
+
+/* A controller is reset while the loop of its I/O queue stands still, which has a Write's data to read. Its blocks are then
+ * written by the honest host: that Write is never done. */
+static void check_cut(struct host *honest) {
+    static uint8_t wanted[HONEST_OCTETS];
+    struct host host = new_host();
+    struct change change = {.count = HONEST_OCTETS / LBA_OCTETS};
+    unsigned apart = begin_apart(&host, honest);
+    patience = 1;
+    leave_to_read(host.queues[1], apart);
+    uint8_t *sqe = host_command(host.queues[0], 0, OPCODE_FABRICS, FABRICS_PROPERTY_SET);
+    set_field(sqe + PROPERTY_OFFSET, 4, PROPERTY_CC);
+    if (host_do(host.queues[0], 0) != 0) die("a controller is not reset");
+    memset(wanted, 0x5e, HONEST_OCTETS);
+    size_t number = model_begin(&model, &change, wanted);
+    put(honest->queues[1], IO_WRITE, wanted[0]);
+    if (host_await(honest->queues[1], 0) != 0) die("the honest host cannot write");
+    model_end(&model, number, SUCCEEDED);
+    pthread_mutex_unlock(&turns[apart]);
+    if (!break_is_seen(host.queues[1])) die("an I/O queue of a controller that was reset stays");
+    patience = 0;
+    host_end(&host);
+    wait_for_queues(2);
+    look();
+}
+
+/* A host has spoken at its I/O queue alone, whose loop stands still: it is not taken for silent. */
+static void check_heard(struct host *honest) {
+    struct host host = new_host();
+    uint64_t until = now_ms() + 2 * KEEP_ALIVE_UNIT;
+    host.keep_alive = KEEP_ALIVE_UNIT;
+    unsigned apart = begin_apart(&host, honest);
+    patience = 1;
+    pthread_mutex_lock(&turns[apart]);
+    put(host.queues[1], IO_FLUSH, 0);
+    while (now_ms() < until) turn();
+    if (!host_step(host.queues[0], 0)) die("a host is taken for silent that has spoken");
+    pthread_mutex_unlock(&turns[apart]);
+    if (host_await(host.queues[1], 0) != 0) die("a host is taken for silent whose loop stood still");
+    patience = 0;
+    host_end(&host);
+    wait_for_queues(2);
+}
+
 static void check_limits(struct host *honest) {
+    if (loops > 3) {
+        check_cut(honest);
+        check_heard(honest);
+    }
     check_turns(honest);
     check_patience(honest);
     check_syncs(honest);
@@ -746,13 +896,15 @@ static void make_file(const char *path) {
 }
 
 static void start(const struct options *options) {
-    if (!target_open(&target, options)) exit(1);
+    if (!target_open(&target, options) || !target_listen(&target)) exit(1);
     failed = luck.sync_failed = 0;
+    begin_loops();
 }
 
 static void stop(void) {
+    end_loops();
     int is_durable = target_close(&target);
-    if (target.queues) die("connections are left");
+    if (target.places.count > 0) die("connections are left");
     if (is_durable != !failed) die("a store that has failed says that it has not");
 }
 
@@ -760,7 +912,7 @@ static void stop(void) {
  * store has failed is started anew. */
 static void run(unsigned long capsules, unsigned long least_lives, const char *path) {
     struct options options = {.address = "127.0.0.1", .nqn = "nqn.2026-11.example:fuzzed", .ram_mib = DISK_MIB,
-        .workers = WORKERS, .start_ms = 10000, .stall_ms = 30000, .file = path};
+        .workers = WORKERS, .loops = loops, .start_ms = 10000, .stall_ms = 30000, .file = path};
     unsigned long sent_before = sent, lives_before = lives;
     if (path) make_file(path);
     start(&options);
@@ -790,6 +942,10 @@ static void run(unsigned long capsules, unsigned long least_lives, const char *p
 }
 
 int main(int n, char **words) {
+    char *x = n > 1 ? strchr(words[1], 'x') : 0;
+    if (x) loops = (unsigned)strtoull(words[1], 0, 10);
+    if (x) words[1] = x + 1;
+    if (loops == 0 || loops > MOST_LOOPS) return 2;
     int is_large = n > 1 && strcmp(words[1], "large") == 0;
     const char *path = n > 3 ? words[3] : 0;
     seed = n > 2 ? strtoull(words[2], 0, 10) : 1;

@@ -7,6 +7,7 @@
  *     uncached 1       nothing is in the system's cache
  *     unclear 1        no range can be cleared at once
  *     plain 1          files have no attributes
+ *     threads N        no more than so many threads can be had
  *     snapshot 1       once fdatasync is done, HARM.disk has what it covered
  *
  * HARM.syncs gets an octet for each fdatasync that was done. */
@@ -49,6 +50,7 @@ typedef ssize_t reads(int fd, const struct iovec *parts, int count, off_t at, in
 typedef int syncs(int fd);
 typedef int clears(int fd, int mode, off_t at, off_t n);
 typedef int sets(int fd, const char *name, const void *value, size_t n, int flags);
+typedef int creates(pthread_t *thread, const pthread_attr_t *attributes, void *(*run)(void *), void *with);
 typedef ssize_t gets(int fd, const char *name, void *value, size_t n);
 
 ssize_t pwrite(int fd, const void *octets, size_t n, off_t at) {
@@ -106,6 +108,13 @@ int fdatasync(int fd) {
     if (write(log, ".", 1) != 1) abort();
     close(log);
     return status;
+}
+
+int pthread_create(pthread_t *thread, const pthread_attr_t *attributes, void *(*run)(void *), void *with) {
+    static long threads;
+    long most = harm("threads");
+    if (most > 0 && ++threads > most) return EAGAIN;
+    return REAL("pthread_create", creates *)(thread, attributes, run, with);
 }
 
 int fsetxattr(int fd, const char *name, const void *value, size_t n, int flags) {

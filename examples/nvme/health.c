@@ -3,9 +3,18 @@
 
 void health_note(struct target *target, const struct job *job) {
     if (job->status != STATUS_WRITE_FAULT && job->status != STATUS_UNRECOVERED_READ) return;
+    pthread_mutex_lock(&target->errors.lock);
     target->errors.count++;
     target->errors.status = job->status;
     target->errors.block = job->at >> LBA_SHIFT;
+    pthread_mutex_unlock(&target->errors.lock);
+}
+
+struct errors health_errors(struct target *target) {
+    pthread_mutex_lock(&target->errors.lock);
+    struct errors errors = {.count = target->errors.count, .status = target->errors.status, .block = target->errors.block};
+    pthread_mutex_unlock(&target->errors.lock);
+    return errors;
 }
 
 uint8_t health_warnings(const struct target *target, const struct controller *controller) {

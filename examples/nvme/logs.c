@@ -70,24 +70,26 @@ static void list_subsystems(const struct command *command, uint8_t *log) {
 }
 
 static void tell_health(const struct command *command, uint8_t *log) {
-    const struct target *target = command->queue->target;
+    struct target *target = command->queue->target;
+    uint64_t errors = health_errors(target).count;
     log[HEALTH_WARNINGS] = health_warnings(target, command->queue->controller);
     set_field(log + HEALTH_TEMPERATURE, 2, KELVIN);
     log[HEALTH_SPARE] = PERCENT;
     log[HEALTH_THRESHOLD] = SPARE_THRESHOLD;
-    set_field(log + HEALTH_MEDIA_ERRORS, 8, target->errors.count);
-    set_field(log + HEALTH_ERROR_ENTRIES, 8, target->errors.count);
+    set_field(log + HEALTH_MEDIA_ERRORS, 8, errors);
+    set_field(log + HEALTH_ERROR_ENTRIES, 8, errors);
 }
 
 /* One entry: the last error, whichever host's command it was. */
-static void list_errors(const struct errors *errors, uint8_t *log) {
-    if (errors->count == 0) return;
-    set_field(log + ERROR_COUNT, 8, errors->count);
+static void list_errors(struct target *target, uint8_t *log) {
+    const struct errors errors = health_errors(target);
+    if (errors.count == 0) return;
+    set_field(log + ERROR_COUNT, 8, errors.count);
     set_field(log + ERROR_SQID, 2, ERROR_NOT_TOLD);
     set_field(log + ERROR_CID, 2, ERROR_NOT_TOLD);
-    set_field(log + ERROR_STATUS, 2, (uint64_t)errors->status << 1);
+    set_field(log + ERROR_STATUS, 2, (uint64_t)errors.status << 1);
     set_field(log + ERROR_FIELD, 2, ERROR_NOT_TOLD);
-    set_field(log + ERROR_LBA, 8, errors->block);
+    set_field(log + ERROR_LBA, 8, errors.block);
     set_field(log + ERROR_NSID, 4, NSID);
 }
 
@@ -96,7 +98,7 @@ void run_log(struct command *command) {
     uint64_t from = field(command->sqe + SQE_CDW12, 8);
     switch (command->sqe[SQE_CDW10]) {
     case LOG_ERRORS:
-        list_errors(&command->queue->target->errors, log);
+        list_errors(command->queue->target, log);
         break;
     case LOG_HEALTH:
         tell_health(command, log);

@@ -2,6 +2,7 @@
 #include "luck.h"
 
 struct luck luck;
+_Thread_local struct lucky_turn lucky_turn;
 static _Atomic uint32_t calls;
 
 /* A number that each call changes. */
@@ -17,8 +18,9 @@ static int is_unlucky(uint32_t one_in) {
 
 static int is_refused(size_t n) {
     enum { MORE = 64 }; /* octets that an allocation may add */
-    if (!luck.in_turn) return 0;
-    return is_unlucky(luck.memory_fails) || (luck.refused && n >= luck.refused && n <= luck.refused + MORE);
+    size_t refused = luck.refused;
+    if (!lucky_turn.goes_on) return 0;
+    return is_unlucky(luck.memory_fails) || (refused && n >= refused && n <= refused + MORE);
 }
 
 void *__real_malloc(size_t n);
@@ -79,13 +81,13 @@ int __wrap_fallocate(int fd, int mode, off_t at, off_t n) {
 
 ssize_t __wrap_send(int fd, const void *octets, size_t n, int flags) {
     ssize_t went = __real_send(fd, octets, n, flags);
-    if (luck.in_turn && went > 0) luck.sent += (size_t)went;
+    if (lucky_turn.goes_on && went > 0) lucky_turn.sent += (size_t)went;
     return went;
 }
 
 int __wrap_accept4(int fd, struct sockaddr *address, socklen_t *n, int flags) {
     int accepted = __real_accept4(fd, address, n, flags);
-    luck.accepted += luck.in_turn && accepted >= 0;
+    lucky_turn.accepted += lucky_turn.goes_on && accepted >= 0;
     return accepted;
 }
 
@@ -102,6 +104,6 @@ int __wrap_pthread_cond_wait(pthread_cond_t *condition, pthread_mutex_t *mutex) 
 
 int32_t __wrap_iwarp_open_next(struct iwarp *handle, uint32_t pd, uint32_t role, uint32_t options, const uint8_t *data, size_t n,
                                uint32_t *stream) {
-    if (luck.in_turn && luck.spent) return IWARP_NUMBERS_SPENT;
+    if (lucky_turn.goes_on && luck.spent) return IWARP_NUMBERS_SPENT;
     return __real_iwarp_open_next(handle, pd, role, options, data, n, stream);
 }

@@ -11,7 +11,7 @@ static uint64_t clock_ms(void) {
     return (uint64_t)time.tv_sec * 1000 + (uint64_t)time.tv_nsec / 1000000;
 }
 
-static void put_write(struct host_queue *queue, uint16_t slot, uint64_t from, uint64_t mark) {
+void put_write(struct host_queue *queue, uint16_t slot, uint64_t from, uint64_t mark) {
     static uint8_t out[SHORT];
     fill(out, SHORT, mark);
     host_blocks(host_command(queue, slot, IO_WRITE, NSID), from, BLOCKS);
@@ -19,12 +19,12 @@ static void put_write(struct host_queue *queue, uint16_t slot, uint64_t from, ui
     host_submit(queue, slot);
 }
 
-static void put_zeroes(struct host_queue *queue, uint16_t slot) {
+void put_zeroes(struct host_queue *queue, uint16_t slot) {
     host_blocks(host_command(queue, slot, IO_WRITE_ZEROES, NSID), 0, MOST_ZEROED);
     host_submit(queue, slot);
 }
 
-static int has_mark(struct host_queue *queue, uint64_t from, uint64_t mark) {
+int has_mark(struct host_queue *queue, uint64_t from, uint64_t mark) {
     static uint8_t wanted[SHORT], in[SHORT];
     fill(wanted, SHORT, mark);
     CHECK(read_blocks(queue, from, in, SHORT, SGL_KEYED) == 0);

@@ -7,32 +7,9 @@ int queue_is_starting(enum queue_state state) {
 }
 
 void queue_enter(struct queue *queue, enum queue_state state) {
-    if (queue_is_starting(queue->state)) queue->target->starting--;
-    if (queue_is_starting(state)) queue->target->starting++;
+    place_enter(queue, state);
     queue->state = state;
-    queue->since = queue->target->now;
-}
-
-/* ---- domains */
-
-/* Takes a place in a domain: one that has queues of this address and room for more, or one that is free. Returns 0 if there is
- * none. */
-static uint32_t enter_domain(struct target *target, uint32_t address) {
-    uint32_t found = 0;
-    for (uint32_t number = MOST_DOMAINS; number > 0; number--) {
-        const struct domain *it = &target->domains[number];
-        int is_joined = it->queues > 0 && it->queues < DOMAIN_QUEUES && it->address == address;
-        if (it->queues == 0 || is_joined) found = number;
-        if (is_joined) break;
-    }
-    if (found == 0) return 0;
-    target->domains[found].address = address;
-    target->domains[found].queues++;
-    return found;
-}
-
-static void leave_domain(struct queue *queue) {
-    if (queue->domain) queue->target->domains[queue->domain].queues--;
+    queue->since = queue->loop->now;
 }
 
 /* ---- a queue's memory */
@@ -68,54 +45,56 @@ static int open_stream(struct queue *queue) {
     struct target *target = queue->target;
     static const uint8_t none = 0;
     struct opening opening = {IWARP_RESPONDER, target->options.options, mulpdu_of(target, queue->fd), &none, 0};
-    int32_t code = endpoint_open(&queue->endpoint, &target->handle, queue->domain ? queue->domain : 1, &opening);
-    if (code == IWARP_NUMBERS_SPENT && !target->told_spent) {
-        target->told_spent = 1;
-        complain("all numbers of streams were given: no connection is taken until the target is started anew");
-    }
+    int32_t code = endpoint_open(&queue->endpoint, &queue->loop->handle, queue->domain ? queue->domain : 1, &opening);
+    if (code == IWARP_NUMBERS_SPENT && !atomic_exchange(&target->told_spent, 1))
+        complain("all numbers of a loop's streams were given: it takes no connection until the target is started anew");
     return code == IWARP_OK;
 }
 
-struct queue *queue_open(struct target *target, int fd, uint32_t address) {
+struct queue *queue_new(struct target *target, int fd) {
     struct queue *queue = calloc(1, sizeof *queue);
     if (!queue) return 0;
     queue->target = target;
     queue->fd = fd;
-    queue->domain = enter_domain(target, address);
-    if (!open_stream(queue)) {
-        endpoint_close(&queue->endpoint);
-        leave_domain(queue);
-        free(queue);
-        return 0;
-    }
     queue->state = AWAITS_REQUEST;
-    queue->since = queue->moved = target->now;
     queue->starting.last = &queue->starting.first;
     queue->reading.last = &queue->reading.first;
     queue->fetching.last = &queue->fetching.first;
     queue->answering.last = &queue->answering.first;
-    queue->next = target->queues;
-    queue->link = &target->queues;
-    if (queue->next) queue->next->link = &queue->next;
-    target->queues = queue;
-    target->queues_made++;
-    target->starting++;
     return queue;
+}
+
+int queue_open(struct queue *queue) {
+    struct loop *loop = queue->loop;
+    queue->since = queue->moved = loop->now;
+    queue->lane.finished = &loop->finished;
+    queue->next = loop->queues;
+    queue->link = &loop->queues;
+    if (queue->next) queue->next->link = &queue->next;
+    loop->queues = queue;
+    loop->queue_count++;
+    int is_open = open_stream(queue);
+    if (!is_open) queue_close(queue);
+    return is_open;
 }
 
 void queue_close(struct queue *queue) {
     struct controller *controller = queue->controller;
     if (queue->state == CLOSED) return;
-    say(queue->target, "queue %d of controller %d: closed", queue->id, controller ? controller->id : 0);
+    say(queue->target, "queue %d of controller %d: closed", queue->id, queue->controller_id);
     queue_enter(queue, CLOSED);
+    queue->controller = 0;
+    if (controller && queue->id > 0) controller_leave(controller, queue);
     close(queue->fd);
     commands_drop(queue);
-    queue->target->sweep = 1;
-    queue->controller = 0;
-    if (controller && queue->id > 0)
-        controller->io[queue->id] = 0;
-    else if (controller)
-        controller_close(controller);
+    queue->loop->sweep = 1;
+    if (controller && queue->id == 0) controller_close(controller);
+}
+
+void queue_end(struct queue *queue) {
+    queue->ends = 1;
+    queue->loop->has_ends = 1;
+    loop_wake(queue->loop);
 }
 
 void queue_free(struct queue *queue) {
@@ -128,10 +107,10 @@ void queue_free(struct queue *queue) {
     command_free_spares(queue);
     *queue->link = queue->next;
     if (queue->next) queue->next->link = queue->link;
-    queue->target->queues_made--;
+    queue->loop->queue_count--;
     endpoint_close(&queue->endpoint);
-    leave_domain(queue);
     free(queue->commands);
+    place_leave(queue);
     free(queue);
 }
 
@@ -226,7 +205,7 @@ static void act(struct queue *queue, const struct iwarp_event *event) {
         answer_request(queue);
         break;
     case IWARP_RECEIVED:
-        if (queue->target->ends_at == 0) take_capsule(queue);
+        if (queue->loop->ends_at == 0) take_capsule(queue);
         break;
     case IWARP_DONE:
     case IWARP_FLUSHED:
@@ -261,20 +240,20 @@ static void work(struct queue *queue) {
 
 static void set_blocked(struct queue *queue, int blocked) {
     struct epoll_event event = {.events = blocked ? EPOLLIN | EPOLLOUT : EPOLLIN, .data.ptr = queue};
-    if (!blocked) queue->moved = queue->target->now;
+    if (!blocked) queue->moved = queue->loop->now;
     if (queue->blocked == blocked) return;
     queue->blocked = blocked;
-    epoll_ctl(queue->target->epoll, EPOLL_CTL_MOD, queue->fd, &event);
+    epoll_ctl(queue->loop->epoll, EPOLL_CTL_MOD, queue->fd, &event);
 }
 
 /* Whether it may send more in this turn of the loop. If not, it goes on in the next. */
 static int has_its_turn(struct queue *queue) {
-    if (queue->turn != queue->target->turns) {
-        queue->turn = queue->target->turns;
+    if (queue->turn != queue->loop->turns) {
+        queue->turn = queue->loop->turns;
         queue->sent = 0;
     }
     queue->again = queue->sent >= MOST_SENT;
-    if (queue->again) queue->target->again = 1;
+    if (queue->again) queue->loop->again = 1;
     return !queue->again;
 }
 
@@ -294,7 +273,7 @@ static int write_out(struct queue *queue) {
         }
         ssize_t went = send(queue->fd, at, n, MSG_NOSIGNAL);
         if (went > 0) {
-            queue->moved = queue->target->now;
+            queue->moved = queue->loop->now;
             queue->sent += (size_t)went;
             endpoint_wrote(&queue->endpoint, (size_t)went);
         } else if (went < 0 && errno == EAGAIN) {
@@ -327,9 +306,7 @@ void queue_run(struct queue *queue) {
 
 /* An admin queue goes after its controller's other queues, which end with it. */
 static int has_io_queues(const struct queue *queue) {
-    for (int i = 1; queue->controller && queue->id == 0 && i <= MOST_IO_QUEUES; i++)
-        if (queue->controller->io[i]) return 1;
-    return 0;
+    return queue->id == 0 && queue->controller && controller_has_io(queue->controller);
 }
 
 void queue_finish(struct queue *queue) {

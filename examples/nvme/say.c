@@ -3,6 +3,7 @@
 
 enum { LONGEST_LINE = 2048 };
 
+static pthread_mutex_t lines = PTHREAD_MUTEX_INITIALIZER; /* of `lost`, and of the order of lines */
 static unsigned long lost; /* lines */
 
 /* Whether a line can be written without waiting. A pipe that takes something takes 4,096 octets (PIPE_BUF). */
@@ -32,10 +33,12 @@ static int tell(int fd, const char *format, ...) {
 void say(const struct target *target, const char *format, ...) {
     va_list words;
     if (!target->options.verbose) return;
+    pthread_mutex_lock(&lines);
     if (lost > 0 && tell(STDOUT_FILENO, "%lu lines were lost, as nobody read them", lost)) lost = 0;
     va_start(words, format);
     if (lost > 0 || !put_line(STDOUT_FILENO, format, words)) lost++;
     va_end(words);
+    pthread_mutex_unlock(&lines);
 }
 
 void complain(const char *format, ...) {

@@ -57,10 +57,11 @@ static void make_unsynced(struct store *store, struct job *job) {
     pthread_cond_signal(&store->unsynced_more);
 }
 
-static void make_done(struct store *store, struct job *job) {
+static void make_done(struct job *job) {
+    struct finished *to = job->lane->finished;
     uint64_t one = 1;
-    if (!store->done.first) (void)!write(store->told, &one, sizeof one);
-    append(&store->done, job);
+    if (!to->jobs.first) (void)!write(to->told, &one, sizeof one);
+    append(&to->jobs, job);
     job->place = DONE;
 }
 
@@ -112,7 +113,7 @@ static void *work(void *given) {
         else if (job->kind == JOB_READ && is_to_be_synced(store, job))
             make_unsynced(store, job);
         else
-            make_done(store, job);
+            make_done(job);
     }
     store->workers--;
     pthread_cond_signal(&store->unsynced_more);
@@ -148,7 +149,7 @@ static void end_sync(struct store *store, struct job *job) {
     if (job->kind == JOB_READ && !store->failed && !job->is_dropped)
         make_ready(store, job);
     else
-        make_done(store, job);
+        make_done(job);
 }
 
 /* Makes durable what was written. One call of the system serves all jobs that wait when it begins, and no worker waits for it. */
@@ -173,7 +174,7 @@ static void *sync_jobs(void *given) {
     return 0;
 }
 
-/* ---- the loop's side */
+/* ---- the loops' side */
 
 /* Whether the job was done at once, as it takes no time that others would have to wait for. */
 static int is_done_at_once(struct store *store, struct job *job) {
@@ -191,12 +192,28 @@ static int begin_flush(struct store *store, struct job *job) {
     return 0;
 }
 
-/* The job waits for no other: a worker may have it. */
+/* The job waits for no other: a worker may have it, unless its loop has dropped it meanwhile, and is about to take it out. */
 static void may_be_done(void *given, struct job *job) {
     struct store *store = given;
     pthread_mutex_lock(&store->mutex);
-    make_ready(store, job);
+    if (job->place == BEHIND_OTHERS) make_ready(store, job);
     pthread_mutex_unlock(&store->mutex);
+}
+
+static void leave(struct store *store, struct job *job) {
+    if (job->is_ordered) order_leave(&store->order, job, may_be_done, store);
+    job->is_ordered = 0;
+}
+
+/* The job waits for none: it is done at once, or a worker may have it. */
+static int begin_first(struct store *store, struct job *job) {
+    if (!is_done_at_once(store, job)) {
+        may_be_done(store, job);
+        return 0;
+    }
+    leave(store, job);
+    job->place = WITH_OWNER;
+    return 1;
 }
 
 int store_begin(struct store *store, struct job *job) {
@@ -205,16 +222,20 @@ int store_begin(struct store *store, struct job *job) {
     job->done = 0;
     if (is_refused(store, job)) return 1;
     if (job->kind == JOB_FLUSH) return begin_flush(store, job);
-    order_look(&store->order, job);
-    if (job->waits_for == 0 && is_done_at_once(store, job)) return 1;
-    order_enter(&store->order, job);
     job->place = BEHIND_OTHERS;
-    if (job->waits_for == 0) may_be_done(store, job);
-    return 0;
-}
-
-static void leave(struct store *store, struct job *job) {
-    if (job->link) order_leave(&store->order, job, may_be_done, store);
+    job->is_ordered = 1;
+    switch (order_enter(&store->order, job)) {
+    case ENTRY_FIRST:
+        return begin_first(store, job);
+    case ENTRY_BEHIND:
+        return 0;
+    case ENTRY_CUT:
+        break;
+    }
+    job->is_ordered = 0;
+    job->place = WITH_OWNER;
+    job->status = STATUS_QUEUE_DELETED;
+    return 1;
 }
 
 int store_drop(struct store *store, struct job *job) {
@@ -241,13 +262,11 @@ static int is_made_unsynced(struct store *store, struct job *job) {
 }
 
 /* Jobs leave the order here, so that those that waited for them are answered later. */
-struct job *store_done(struct store *store) {
-    uint64_t count;
+struct job *store_done(struct store *store, struct finished *finished) {
     struct jobs given = {0};
-    (void)!read(store->told, &count, sizeof count);
     pthread_mutex_lock(&store->mutex);
-    struct jobs done = store->done;
-    store->done = (struct jobs){0};
+    struct jobs done = finished->jobs;
+    finished->jobs = (struct jobs){0};
     pthread_mutex_unlock(&store->mutex);
     for (struct job *it = done.first, *next; it; it = next) {
         next = it->next;
@@ -311,8 +330,7 @@ const char *store_open(struct store *store, const struct options *options) {
     memset(store, 0, sizeof *store);
     store->fd = -1;
     make_conditions(store);
-    store->told = eventfd(0, EFD_NONBLOCK | EFD_CLOEXEC);
-    if (store->told < 0) return strerror(errno);
+    order_open(&store->order);
     const char *why = options->file ? open_file(store, options) : take_memory(store, options);
     if (why) return why;
     if (!begin_thread(store, sync_jobs, &store->syncs)) return "no thread";
@@ -345,6 +363,5 @@ int store_close(struct store *store, uint64_t most_ms) {
     for (int i = 0; i < store->thread_count; i++) pthread_join(store->threads[i], 0);
     if (!store->ram) close(store->fd);
     free(store->ram);
-    close(store->told);
     return 1;
 }

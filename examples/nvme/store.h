@@ -1,5 +1,6 @@
 /* The store: octets in memory or in a file, and jobs on them. A job that changes octets which another is about waits for it, or has
- * it wait: the one that came first is done first. Workers do what need not wait; of those the connections have their turns. */
+ * it wait: the one that came first is done first. Workers do what need not wait; of those the connections have their turns. Loops
+ * share the store: each calls it for jobs of its own. */
 #ifndef STORE_H
 #define STORE_H
 
@@ -23,10 +24,18 @@ struct jobs {
     struct job *first, *last;
 };
 
+/* Jobs of a loop's connections that are done. The store's mutex. */
+struct finished {
+    struct jobs jobs;
+    int told; /* an eventfd: there are some */
+};
+
 /* The jobs of a connection that may be done. */
 struct lane {
     struct lane *next; /* in the ring of those that have jobs */
     struct jobs jobs;
+    struct finished *finished; /* where they go once they are done */
+    int is_cut; /* no job of it is begun any more. The order's locks */
 };
 
 /* What the store is to do: at most one thing at a time for a command. */
@@ -44,24 +53,38 @@ struct job {
     int is_synced; /* a durable JOB_READ: what it reads is on the medium */
     uint32_t part; /* spans that are done; and octets of the next */
     uint64_t done;
-    uint64_t number; /* in the order in which they came */
+    int is_ordered; /* it is in the order */
+    uint64_t number; /* above that of each before it that is about the same octets. The order's locks, as all that follows */
     uint32_t waits_for; /* so many that came before */
-    struct job *behind, **link; /* in the order; no link: it is not */
+    int is_awaited; /* some that came behind may wait for it */
+    struct job *behind, **link; /* in the order */
 };
 
-/* Jobs that are not over, so that each new one is compared with those near it alone. Only the loop touches it. */
+enum { ORDER_LISTS = 4096, ORDER_LOCKS = 32, CACHE_LINE = 64 };
+
+struct order_lock {
+    _Alignas(CACHE_LINE) pthread_mutex_t mutex;
+};
+
+/* Jobs that are not over, so that each new one is compared with those near it alone. Loops share it by ranges: who looks at a
+ * list or changes it has its lock, and who changes `wide`, or cuts a lane, has all. */
 struct order {
-    struct job *narrow[4096]; /* by the MiB in which they begin, modulo their number: those of at most one MiB */
+    struct order_lock locks[ORDER_LOCKS];
+    _Alignas(CACHE_LINE) struct job *narrow[ORDER_LISTS]; /* of at most one MiB, by that in which they begin */
     struct job *wide;
-    uint64_t count; /* of all that came */
 };
 
-/* Finds out how many jobs in the order a job has to wait for. */
-void order_look(struct order *order, struct job *job);
+/* How a job comes into the order: not, as its lane is cut; with none before it that it has to wait for; behind some. */
+enum entry { ENTRY_CUT, ENTRY_FIRST, ENTRY_BEHIND };
 
-/* Takes a job that was looked for into the order; and out of it: each job that waited for it, and for no other, comes to `may`. */
-void order_enter(struct order *order, struct job *job);
+void order_open(struct order *order);
+enum entry order_enter(struct order *order, struct job *job);
+
+/* Takes a job out of the order: each job that waited for it, and for no other, comes to `may`, with locks held. */
 void order_leave(struct order *order, struct job *job, void (*may)(void *with, struct job *job), void *with);
+
+/* No job of the lane is begun from now on: what it has in the order is done before all that comes later, or never. */
+void order_cut(struct order *order, struct lane *lane);
 
 /* How many spans a job has, and each of them. */
 uint32_t job_spans(const struct job *job);
@@ -72,12 +95,11 @@ struct store {
     uint8_t *ram; /* the octets, or null if there is a file */
     int fd, read_only;
     _Atomic int failed; /* what was written may be lost */
-    int told; /* an eventfd: jobs are done */
     struct order order;
-    pthread_mutex_t mutex; /* of all that follows */
+    pthread_mutex_t mutex; /* of all that follows, of lanes and of jobs' places */
     pthread_cond_t more, unsynced_more, ended; /* a job may be done; is to be made durable, or no worker is left; a thread ended */
     struct lane *lanes, *last_lane; /* a ring: those that have jobs, the next first */
-    struct jobs unsynced, done;
+    struct jobs unsynced;
     int ends; /* no more jobs come */
     pthread_t threads[1 + MOST_WORKERS]; /* the first makes durable, the others are workers */
     int thread_count, workers; /* that were begun; workers that go on */
@@ -90,18 +112,19 @@ struct options;
  * cannot, or null. */
 const char *store_open(struct store *store, const struct options *options);
 
-/* Has threads finish what they are at, makes it durable, and closes, in at most so many milliseconds. Returns 0 if a thread is late:
- * it goes on, and the process has to end. Else `failed` tells whether all that was answered with success is durable. */
+/* Has threads finish what they are at, makes it durable, and closes, in at most so many milliseconds. Returns 0 if a thread is
+ * late: it goes on, and the process has to end. Else `failed` tells whether all that was answered with success is durable. */
 int store_close(struct store *store, uint64_t most_ms);
 
-/* Begins a job. Returns 1 if it is done; else a worker does it, and store_done gives it back. */
+/* Begins a job of a lane. Returns 1 if it is done; else a worker does it, and store_done gives it back. */
 int store_begin(struct store *store, struct job *job);
 
-/* Nobody wants a job that was begun. Returns 1 if it is out of the store; else a thread works on it, and store_done gives it back. */
+/* Nobody wants a job that was begun. Returns 1 if it is out of the store; else a thread works on it, and store_done gives it
+ * back. */
 int store_drop(struct store *store, struct job *job);
 
 /* The jobs that are done since, as a list, in the order in which they were. */
-struct job *store_done(struct store *store);
+struct job *store_done(struct store *store, struct finished *finished);
 
 /* medium.c: does a job, or a part of it that takes a few milliseconds. Returns whether the job is done, and sets its status. */
 int medium_work(struct store *store, struct job *job);

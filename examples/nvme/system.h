@@ -9,6 +9,7 @@
 #include <malloc.h>
 #include <netinet/tcp.h>
 #include <pthread.h>
+#include <sched.h>
 #include <signal.h>
 #include <stdarg.h>
 #include <sys/eventfd.h>

@@ -1,7 +1,7 @@
 /* The target's options. `target --help` tells them. */
 #include "target.h"
 
-enum { MOST_RAM_MIB = 1 << 20, MOST_MEMORY_MIB = 1 << 20, MOST_SECONDS = 86400, OTHER_FILES = 64, FILES = MOST_QUEUES + OTHER_FILES };
+enum { MOST_RAM_MIB = 1 << 20, MOST_MEMORY_MIB = 1 << 20, MOST_SECONDS = 86400, OTHER_FILES = 128, FILES = MOST_QUEUES + OTHER_FILES };
 
 static const char help[] =
     " [OPTION VALUE].. [FLAG]..\n"
@@ -17,6 +17,7 @@ static const char help[] =
     "  --allow NQN      a host that may connect, by the name that it gives, which is not proved; up to 256 times (each host may)\n"
     "  --tell A         the address that discovery tells (the one that the host has reached)\n"
     "  --mulpdu N       octets of an FPDU's payload, 128 to 64512 (as TCP's segments have)\n"
+    "  --loops N        threads that serve connections, at most 16 (one for each processor)\n"
     "  --workers N      threads that read and write the file (4)\n"
     "  --most-memory N  MiB for all connections, 6 for each: no more are taken than fit (as many as there can be)\n"
     "  --start SECONDS  a connection has this long to get as far as Connect (10)\n"
@@ -95,6 +96,7 @@ static int take(struct options *options, const char *word, const char *value) {
     if (strcmp(word, "--allow") == 0) return allow(options, value);
     if (strcmp(word, "--tell") == 0) return read_text(value, &options->told_address);
     if (strcmp(word, "--mulpdu") == 0) return read_unsigned(value, MOST_MULPDU, &options->mulpdu) && options->mulpdu >= LEAST_MULPDU;
+    if (strcmp(word, "--loops") == 0) return read_unsigned(value, MOST_LOOPS, &options->loops) && options->loops > 0;
     if (strcmp(word, "--workers") == 0) return read_unsigned(value, MOST_WORKERS, &options->workers) && options->workers > 0;
     if (strcmp(word, "--most-memory") == 0) return read_memory(value, &options->most_queues);
     if (strcmp(word, "--start") == 0) return read_seconds(value, &options->start_ms);
@@ -110,14 +112,19 @@ static void allow_files(void) {
     setrlimit(RLIMIT_NOFILE, &files);
 }
 
-/* A first SIGTERM or SIGINT has the target end in good order, a second ends it at once. */
-static int stop_by;
+static unsigned processors(void) {
+    cpu_set_t set;
+    unsigned count = sched_getaffinity(0, sizeof set, &set) == 0 ? (unsigned)CPU_COUNT(&set) : 1;
+    return count < MOST_LOOPS ? count : MOST_LOOPS;
+}
 
+static struct target target;
+
+/* A first SIGTERM or SIGINT has the target end in good order, a second ends it at once. */
 static void stop(int number) {
-    uint64_t one = 1;
     int error = errno;
     signal(number, SIG_DFL);
-    (void)!write(stop_by, &one, sizeof one);
+    target_end(&target);
     errno = error;
 }
 
@@ -127,9 +134,8 @@ static void name_program(const char *word) {
 }
 
 int main(int n, char **words) {
-    static struct target target;
-    struct options options = {.address = "127.0.0.1", .ram_mib = 64, .port = 4420, .workers = 4, .start_ms = 10000,
-        .stall_ms = 30000};
+    struct options options = {.address = "127.0.0.1", .ram_mib = 64, .port = 4420, .workers = 4, .loops = processors(),
+        .start_ms = 10000, .stall_ms = 30000};
     if (n > 0) name_program(words[0]);
     for (int i = 1; i < n; i++) {
         if (strcmp(words[i], "--help") == 0) {
@@ -152,15 +158,12 @@ int main(int n, char **words) {
     signal(SIGPIPE, SIG_IGN);
     signal(SIGXFSZ, SIG_IGN); /* a file that cannot grow fails the command */
     allow_files();
-    if (!target_open(&target, &options)) return 1;
+    if (!target_open(&target, &options) || !target_begin(&target) || !target_listen(&target)) return 1;
     printf("port %u\n%llu blocks of %d octets, %s\n", target.port, (unsigned long long)target.store.blocks, LBA_OCTETS,
         target.identity.nqn);
     fflush(stdout);
-    stop_by = target.stop;
     signal(SIGTERM, stop);
     signal(SIGINT, stop);
-    while (target_turn(&target, -1)) {
-    }
-    int told = target.ends_at != 0;
-    return target_close(&target) && told ? 0 : 1;
+    target_run(&target);
+    return target_close(&target) && !target.is_broken ? 0 : 1;
 }
