@@ -13,15 +13,12 @@ use crate::acting::act;
 use crate::connection::{Broken, Connection, Phase};
 use crate::host::{Socket, Waits};
 use crate::log::Log;
-use iw_connection::{CallRefusal, Endpoint, Filled, Intake, take_some};
+use iw_connection::{CallRefusal, Endpoint, Filled, Intake, take};
 use std::alloc::Global;
 use std::io::ErrorKind;
 
 // About how many octets are written in a turn, so that no connection holds up the others.
 const MOST_WRITTEN: usize = 65_536;
-
-// How many octets are read in a turn at most. Each stream keeps memory for as many.
-const MOST_READ: usize = 16_384;
 
 /// What comes after a turn.
 #[derive(Clone, Copy, Debug, PartialEq, Eq)]
@@ -126,7 +123,7 @@ fn hear<S: Socket>(
     ensures nothing { result ≡ Ok Heard.Nothing → (connection.old.phase ≡ Phase.Shut) ⊎ ((endpoint.new ≡ endpoint.old) × Keeps (S.remaining socket.old) (S.remaining socket.new)) }
     ensures end { result ≡ Ok Heard.End → (endpoint.new ≡ endpoint.old) × IsAtEnd (S.remaining socket.new) }
 {
-    match take_some(endpoint, connection.stream, socket, MOST_READ) {
+    match take(endpoint, connection.stream, socket) {
         Ok(Intake::Came(_)) => {
             if connection.phase == Phase::Shut {
                 return Ok(Heard::Nothing);
