@@ -13,6 +13,12 @@ use std::net::SocketAddr;
 // How many octets of lines are kept at most.
 const MOST_KEPT: usize = 65_536;
 
+// What stands behind a count of lines that were dropped.
+const DROPPED: &str = " lines dropped";
+
+// How often the last lines are tried at most.
+const MOST_TRIES: u32 = 1_024;
+
 // Beyond this many a log is printed before the next turn, which adds fewer octets than are left.
 const MOST_WAITING: usize = 32_768;
 
@@ -25,8 +31,9 @@ pub(crate) struct Log {
     text: String,
     // How many octets of the text the output has taken.
     printed: usize,
-    // How many lines were dropped behind the text.
+    // How many lines were dropped behind the text, and how many its first line says were dropped before it.
     dropped: u64,
+    told: u64,
     ghost taken: { printed ≤ string_len text },
 }
 
@@ -39,6 +46,7 @@ impl Log {
             text: String::new(alloc),
             printed: 0,
             dropped: 0,
+            told: 0,
         }
     }
 
@@ -108,6 +116,20 @@ impl Log {
         self.add(line);
     }
 
+    /// A line that a process printed, without its end. One that tells of lines that were dropped there counts as these.
+    pub(crate) fn add_from(&mut self, process: u8, line: &[u8]) {
+        let Ok(line) = str::from_utf8(line) else {
+            return self.drop_one();
+        };
+        match count_dropped(line) {
+            Some(count) => self.dropped = self.dropped.saturating_add(count),
+            None => {
+                let line = format!(in self.alloc; "process {process}: {line}\n");
+                self.add(line);
+            }
+        }
+    }
+
     // Adds a line; or drops it and counts it, if there is no room or no memory, or a line before it was dropped.
     fn add(&mut self, line: Result<String, AllocError>)
         ensures { IsAdded line (string_bytes self.old.text) self.old.dropped (string_bytes self.new.text) self.new.dropped }
@@ -132,8 +154,8 @@ impl Log {
         }
     }
 
-    // A line is dropped.
-    fn drop_one(&mut self)
+    /// A line is dropped.
+    pub(crate) fn drop_one(&mut self)
         ensures { IsDropped (string_bytes self.old.text) self.old.dropped (string_bytes self.new.text) self.new.dropped }
     {
         self.dropped = self.dropped.saturating_add(1);
@@ -163,20 +185,70 @@ impl Log {
         }
     }
 
+    /// Prints what is left, and has the output wait by its `flush` where it does not take all, until that fails. Returns how many
+    /// lines were not printed, those included that were dropped.
+    pub(crate) fn finish<W: Write>(&mut self, output: &mut W) -> u64
+        ensures { result ≡ 0 → (self.new.dropped ≡ 0) × (string_len self.new.text ≤ self.new.printed) }
+    {
+        'tries: for _ in 0..MOST_TRIES {
+            self.print(output);
+            if self.is_over() || output.flush().is_err() {
+                break;
+            }
+        }
+        self.left()
+    }
+
+    // Whether nothing is left to print.
+    fn is_over(&self) -> bool
+        ensures { result ≡ true → (self.now.dropped ≡ 0) × (string_len self.now.text ≤ self.now.printed) }
+    {
+        self.printed >= self.text.len() && self.dropped == 0
+    }
+
+    // How many lines are left, the one included of which a part was printed, and those that were dropped.
+    fn left(&self) -> u64
+        ensures { result ≡ 0 → (self.now.dropped ≡ 0) × (string_len self.now.text ≤ self.now.printed) }
+    {
+        if self.is_over() {
+            return 0;
+        }
+        let rest = &self.text.as_bytes()[self.printed..];
+        let lines = rest.iter().filter(|octet| **octet == b'\n').count() as u64;
+        let dropped = self.dropped.saturating_add(self.untold());
+        lines.saturating_add(dropped).max(1)
+    }
+
+    // How many more lines were dropped, of which the first line of the text tells, while that is not printed whole.
+    fn untold(&self) -> u64 {
+        if self.text.as_bytes()[..self.printed].contains(&b'\n') {
+            0
+        } else {
+            self.told.saturating_sub(1)
+        }
+    }
+
     // All was printed. Returns whether more is to be: how many lines were dropped.
     fn begin_again(&mut self) -> bool {
         self.text.clear();
         self.printed = 0;
+        self.told = 0;
         if self.dropped == 0 {
             return false;
         }
         let dropped = self.dropped;
-        if writeln!(self.text, "{dropped} lines dropped").is_err() {
+        if writeln!(self.text, "{dropped}{DROPPED}").is_err() {
             return false;
         }
+        self.told = dropped;
         self.dropped = 0;
         true
     }
+}
+
+// How many lines were dropped, if a line tells of that.
+fn count_dropped(line: &str) -> Option<u64> {
+    line.strip_suffix(DROPPED)?.parse().ok()
 }
 
 fn received_line(

@@ -275,6 +275,11 @@ impl<S: Socket + Drop> Server<S> {
         self.log.print(output);
     }
 
+    /// Prints the last lines. Returns how many the output did not take.
+    pub(crate) fn finish<W: Write>(&mut self, output: &mut W) -> u64 {
+        self.log.finish(output)
+    }
+
     /// As [`Server::print`], if there is much.
     pub(crate) fn print_if_long<W: Write>(&mut self, output: &mut W)
         ensures { self.new.begun ≡ self.old.begun }

@@ -31,13 +31,16 @@ pub struct Tally {
     pub begun: u64,
     /// How many of them failed: no Send came, the stream ended by a fault, the socket failed, or there was no room.
     pub failed: u64,
+    /// How many lines the output did not take, and no line tells of.
+    pub unprinted: u64,
 }
 
 /// Serves so many connections, as many at once as there are, and prints a line for each Send that came and for each fault that ended a
 /// stream, with the peer's address. It returns once they are over.
 ///
 /// What the output does not take waits for it, 65,536 octets at most; further lines are dropped, and a line tells how many once it
-/// takes octets again. So an output that fails, or whose writes fail with `WouldBlock`, holds up nothing and ends nothing.
+/// takes octets again. So an output that fails, or whose writes fail with `WouldBlock`, holds up nothing and ends nothing. Once
+/// all connections are over, what is left is tried again behind each `flush` of the output, 1,024 times at most, until one fails.
 ///
 /// An `Err` is `Host` if the host cannot wait or has no clock: connections may be left. `NumbersSpent` comes once 2^32 - 64 streams
 /// were opened and the last of them is over. `NoMemory` comes before the first connection.
@@ -55,7 +58,16 @@ pub fn serve<S: Socket + Drop, H: Host<S>, W: Write>(
         return Err(ServeFault::NoMemory);
     };
     let mut server = Server::new(alloc, terms);
-    serve_all(&mut server, count, host, &mut ready, print)
+    let served = serve_all(&mut server, count, host, &mut ready, print);
+    let unprinted = server.finish(print);
+    match served {
+        Ok(tally) => Ok(Tally {
+            begun: tally.begun,
+            failed: tally.failed,
+            unprinted,
+        }),
+        Err(fault) => Err(fault),
+    }
 }
 
 // The rounds, until so many connections were begun and are over.
@@ -76,6 +88,7 @@ fn serve_all<S: Socket + Drop, H: Host<S>, W: Write>(
             return Ok(Tally {
                 begun: server.begun,
                 failed: server.failed,
+                unprinted: 0,
             });
         }
         if server.is_spent && server.live() == 0 {

@@ -1,7 +1,9 @@
 use crate::host::{Host, Socket, Waits};
 use crate::serving::MOST_READY;
-use libc::net as c;
+use crate::shared::SharedPort;
+use libc::{STDIN_FILENO, net as c};
 use mio::net::{TcpListener, TcpStream};
+use mio::unix::SourceFd;
 use mio::{Events, Interest, Poll, Token};
 use std::alloc::Global;
 use std::io::{self, ErrorKind};
@@ -10,8 +12,10 @@ use std::os::fd::{AsRawFd, RawFd};
 use std::random::RandomSource;
 use std::time::{Clock, Duration};
 
-// The token of the listener. No connection has this key.
+// The tokens of the listener, and of standard input, whose other end the parent of a worker has. No connection has these keys.
 const LISTENER: Token = Token(usize::MAX);
+
+const PARENT: Token = Token(usize::MAX - 1);
 
 // How many octets the kernel is asked to keep for a connection, each way. Linux takes twice as many, for what it keeps with them,
 // and no more than twice net.core.wmem_max and rmem_max.
@@ -31,6 +35,8 @@ pub struct Sockets<'a, C> {
     listener: TcpListener,
     // A connection may wait to be accepted.
     has_arrivals: bool,
+    // Standard input has ended: the parent is gone.
+    is_orphaned: bool,
     system: &'a C,
 }
 
@@ -53,9 +59,34 @@ impl<'a, C: Clock + RandomSource> Sockets<'a, C> {
         system: &'a C,
         port: u16,
     ) -> io::Result<Sockets<'a, C>> {
-        let poll = Poll::new(net)?;
         let address = SocketAddr::from((Ipv4Addr::LOCALHOST, port));
-        let mut listener = TcpListener::bind(net, address)?;
+        Sockets::over(alloc, net, system, TcpListener::bind(net, address)?)
+    }
+
+    /// The same at a port that other processes may listen at too (SO_REUSEPORT), until standard input ends: from then on
+    /// [`Host::wait`] fails.
+    pub(crate) fn share<N: Net>(
+        alloc: Global,
+        net: &N,
+        system: &'a C,
+        port: u16,
+    ) -> io::Result<Sockets<'a, C>> {
+        let listener = SharedPort::bind(net, port)?.listen()?;
+        let sockets = Sockets::over(alloc, net, system, listener)?;
+        sockets
+            .poll
+            .registry()
+            .register(&mut SourceFd(&STDIN_FILENO), PARENT, Interest::READABLE)?;
+        Ok(sockets)
+    }
+
+    fn over<N: Net>(
+        alloc: Global,
+        net: &N,
+        system: &'a C,
+        mut listener: TcpListener,
+    ) -> io::Result<Sockets<'a, C>> {
+        let poll = Poll::new(net)?;
         limit_kernel(listener.as_raw_fd());
         poll.registry()
             .register(&mut listener, LISTENER, Interest::READABLE)?;
@@ -64,8 +95,14 @@ impl<'a, C: Clock + RandomSource> Sockets<'a, C> {
             events: Events::with_capacity(alloc, MOST_READY)?,
             listener,
             has_arrivals: false,
+            is_orphaned: false,
             system,
         })
+    }
+
+    /// Whether standard input has ended.
+    pub(crate) fn is_orphaned(&self) -> bool {
+        self.is_orphaned
     }
 
     /// The port that was bound.
@@ -118,9 +155,14 @@ impl<C: Clock + RandomSource> Host<TcpStream> for Sockets<'_, C> {
             let token = event.token();
             if token == LISTENER {
                 self.has_arrivals = true;
+            } else if token == PARENT {
+                self.is_orphaned = true;
             } else {
                 ready.push(token.0)?;
             }
+        }
+        if self.is_orphaned {
+            return Err(io::Error::from(ErrorKind::BrokenPipe));
         }
         Ok(())
     }

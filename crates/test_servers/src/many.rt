@@ -120,11 +120,12 @@ fn mute_peers_give_way(rt: HostRuntime) -> Result<(), Fail> {
     Ok(())
 }
 
-/// An output that takes nothing at first.
+/// An output that takes nothing at first, and waits so often.
 #[derive(Drop)]
 struct Clogged {
     text: Vec<u8>,
     refusals: u32,
+    waits: u32,
 }
 
 impl Write for Clogged {
@@ -137,6 +138,10 @@ impl Write for Clogged {
     }
 
     fn flush(&mut self) -> io::Result<()> {
+        if self.waits == 0 {
+            return Err(io::Error::from(ErrorKind::TimedOut));
+        }
+        self.waits = self.waits.saturating_sub(1);
         Ok(())
     }
 }
@@ -154,28 +159,35 @@ fn count_told(text: &str) -> usize {
     told
 }
 
-// An output that takes nothing holds up nobody, and each line is printed or counted.
-#[test]
-fn lines_are_dropped_and_counted(rt: HostRuntime) -> Result<(), Fail> {
-    let mut crowd = Crowd::new(rt.alloc(), PLAIN, 64, 3_000);
+// Serves 1,500 peers. Returns how many lines the output does not take, and how many it tells of.
+fn count_clogged<R: Abort + AllocGlobal>(
+    rt: &R,
+    refusals: u32,
+    waits: u32,
+) -> Result<(u64, usize), Fail> {
+    let mut crowd = Crowd::new(rt.alloc(), PLAIN, 64, 1_500);
+    let text = Vec::new(rt.alloc());
     let mut output = Clogged {
-        text: Vec::new(rt.alloc()),
-        refusals: 2_000,
+        text,
+        refusals,
+        waits,
     };
-    let Ok(tally) = serve(
-        rt.alloc(),
-        terms(EVER, EVER),
-        3_000,
-        &mut crowd,
-        &mut output,
-    ) else {
+    let terms = terms(EVER, EVER);
+    let Ok(tally) = serve(rt.alloc(), terms, 1_500, &mut crowd, &mut output) else {
         return Err("not served".into());
     };
     assert!(rt; tally.failed == 0);
-    assert!(rt; crowd.answered == 3_000);
+    assert!(rt; crowd.answered == 1_500);
     let text = str::from_utf8(output.text.as_slice())?;
-    assert!(rt; text.contains(" lines dropped"));
-    assert!(rt; count_told(text) == 3_000);
+    assert!(rt; tally.unprinted > 0 || text.contains(" lines dropped"));
+    Ok((tally.unprinted, count_told(text)))
+}
+
+// An output that takes nothing holds up nobody, and each line is printed or counted: also at the end, where it is waited for.
+#[test]
+fn lines_are_dropped_and_counted(rt: HostRuntime) -> Result<(), Fail> {
+    assert!(rt; count_clogged(&rt, 2_000, 0)? == (0, 1_500));
+    assert!(rt; count_clogged(&rt, 100_000, 500)? == (1_500, 0));
     Ok(())
 }
 
