@@ -1,8 +1,11 @@
 -- What a connection does in its turn.
 use Rattle.std.specs.Prelude.{◌≡◌, ◌⊎◌, ℕ, List, Option}
 use Rattle.iw_endpoint.specs.Endpoint.{EndpointState}
+use Rattle.iw_endpoint.specs.Reading.{Took}
 use Rattle.iw_server.specs.declared.connection.Connection.{Connection}
-use Rattle.iw_server.specs.Acting.{IsSame}
+use Rattle.iw_server.specs.declared.host.Waits.{Waits}
+use Rattle.iw_server.specs.declared.host.Waits.TheVariants as waits
+use Rattle.iw_server.specs.Acting.{IsSame, standing, ActsAll}
 use Rattle.iw_server.specs.Unwritten.{Takes, Gathers}
 
 -- it goes on with the same stream and the same region
@@ -18,14 +21,24 @@ pub record Writes (e : EndpointState) (old new : Connection) (before after : Opt
   pub gathers : Gathers e old.stream old.unwritten octets at
   pub takes : Takes before after octets new.unwritten
 
--- The same once it was read, which leaves what is to be written as it was. (What a read leaves of the octets that a socket holds is not known.)
-pub record WritesThen (old new : Connection) (after : Option (List ℕ)) : Type 0 where
-  pub e : EndpointState
+-- One read brought octets, and all was done that they ask for.
+abbrev pub Hears : EndpointState → EndpointState → Connection → Connection → Option (List ℕ) → Option (List ℕ) → Type 0
+Hears e e' old new before after =
+    (n : ℕ) × (at : EndpointState) × Took e at old.stream before after n × ActsAll old.region old.stream (standing at old) (standing e' new)
+
+-- The same as above once it was read so, which leaves what is to be written as it was. (What a read leaves of the octets that a socket
+-- holds is not known.)
+pub record WritesThen (e : EndpointState) (old new : Connection) (remaining after : Option (List ℕ)) : Type 0 where
+  pub m : EndpointState
   pub mid : Connection
+  pub rest : Option (List ℕ)
   pub before : Option (List ℕ)
   pub same : IsSame old mid
-  pub writes : Writes e mid new before after
+  pub hears : Hears e m old mid remaining rest
+  pub writes : Writes m mid new before after
 
--- a turn writes so, or it changes nothing of what is to be written
-abbrev pub TakesTurn : Connection → Connection → Option (List ℕ) → Type 0
-TakesTurn old new after = WritesThen old new after ⊎ IsSame old new
+-- A connection that waits until it can write is not read in its turn. Another one writes once it was read, or nothing changes of what it is
+-- to write.
+abbrev pub TakesTurn : Waits → EndpointState → Connection → Connection → Option (List ℕ) → Option (List ℕ) → Option (List ℕ) → Type 0
+TakesTurn waits.Readable e old new contents remaining after = WritesThen e old new remaining after ⊎ IsSame old new
+TakesTurn waits.Writable e old new contents remaining after = Writes e old new contents after

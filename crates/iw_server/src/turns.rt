@@ -7,7 +7,7 @@ ghost use Rattle.iw_endpoint.specs.Reading.{Took};
 ghost use Rattle.iw_server.specs.declared.host.Waits.{Waits};
 ghost use Rattle.iw_server.specs.Unwritten.{Takes, Gathers};
 ghost use Rattle.iw_server.specs.Acting.{IsSame, standing, ActsAll, ActsOn};
-ghost use Rattle.iw_server.specs.Turns.{GoesOn, Writes, TakesTurn};
+ghost use Rattle.iw_server.specs.Turns.{GoesOn, Hears, Writes, WritesThen, TakesTurn};
 
 use crate::acting::act;
 use crate::connection::{Broken, Connection, Phase};
@@ -57,7 +57,8 @@ pub(crate) fn take_turn<S: Socket>(
     now: u64,
 ) -> Turn
     ensures on { GoesOn connection.old connection.new }
-    ensures writes { TakesTurn connection.old connection.new (S.contents socket.new) }
+    ensures writes { TakesTurn connection.old.waits endpoint.old connection.old connection.new
+        (S.contents socket.old) (S.remaining socket.old) (S.contents socket.new) }
     ensures waits { (waits : Waits) → result ≡ Turn.Waits waits → connection.new.waits ≡ waits }
     ensures all { (connection.old.waits ≡ Waits.Readable → connection.old.unwritten ≡ []) → result ≡ Turn.Waits Waits.Readable → connection.new.unwritten ≡ [] }
 {
@@ -88,7 +89,8 @@ fn listen<S: Socket>(
     now: u64,
 ) -> Result<Turn, Broken>
     ensures on { GoesOn connection.old connection.new }
-    ensures writes { TakesTurn connection.old connection.new (S.contents socket.new) }
+    ensures writes { WritesThen endpoint.old connection.old connection.new (S.remaining socket.old) (S.contents socket.new)
+        ⊎ IsSame connection.old connection.new }
     ensures all { connection.old.unwritten ≡ [] → result ≡ Ok (Turn.Waits Waits.Readable) → connection.new.unwritten ≡ [] }
 {
     match hear(alloc, endpoint, connection, socket, log, now) {
@@ -112,10 +114,8 @@ fn hear<S: Socket>(
     now: u64,
 ) -> Result<Heard, Broken>
     ensures same { IsSame connection.old connection.new }
-    ensures came { result ≡ Ok Heard.Octets → (n : ℕ) × (at : EndpointState) ×
-        Took endpoint.old at connection.old.stream (S.remaining socket.old) (S.remaining socket.new) n ×
-        ActsAll connection.old.region connection.old.stream
-        (standing at connection.old) (standing endpoint.new connection.new) }
+    ensures came { result ≡ Ok Heard.Octets →
+        Hears endpoint.old endpoint.new connection.old connection.new (S.remaining socket.old) (S.remaining socket.new) }
     ensures more { result ≡ Ok Heard.More → (n : ℕ) × (at : EndpointState) ×
         Took endpoint.old at connection.old.stream (S.remaining socket.old) (S.remaining socket.new) n ×
         ActsOn connection.old.region connection.old.stream

@@ -49,7 +49,7 @@ const PLAIN: [&str; 3] = [
 const KEPT: &str =
     "kill $1; kill -9 $2; until [ $(grep -c again $errors) = 2 ]; do sleep 0.1; done; \
 for _ in 1 2 3 4 5 6 7 8 9; do $0 ask $port 1 | grep -q '^1' && break; sleep 0.2; done; sleep 0.5; \
-$0 ask $port 40; sleep 0.5; sed 1d $lines | cut -d' ' -f1,2 | sort -u; sort -k3,3n -k6r $errors | cut -d' ' -f1-3,6-; : > $errors";
+$0 ask $port 40; sleep 0.5; sed 1d $lines | cut -d' ' -f1,2 | sort -u; sort -k3,3n -k6,6 $errors | cut -d' ' -f1-3,6-; : > $errors";
 
 /// Both are killed, and none is left.
 const ENDED: &str =
