@@ -30,7 +30,7 @@ set -- $(cat /proc/$server/task/$server/children)
 /// The parent ends, and with it all others.
 const SERVED: &str = "
 kill $server
-wait $server
+wait $server 2> /dev/null
 echo $?
 for _ in 1 2 3 4 5 6 7 8 9; do $0 ask $port 1 | grep -q '^0' && break; sleep 0.2; done
 $0 ask $port 1
